@@ -1,0 +1,89 @@
+-- The greatest number from 0 to n that passes a test: what is known of it, and how a search by halves finds it.
+-- One set of laws over the test serves the root, the angle and the geodetic latitude. Assumes nothing.
+use mathlib.Core.Path.{_≡_, refl, sym, ap, _∙_, subst}
+use mathlib.Core.Bool.{Bool, true, false, cond}
+use mathlib.Core.Logic.{_⊎_, inl, inr, ⊎-elim}
+use Prim.Native.Nat.{ℕ, zero, suc, _+_, _-_, _<_, _≤_, zero-le}
+use native.Mathlib.Nat.{le-refl, le-suc, le-trans, eq-or-lt-of-le, le-of-suc-le-suc}
+use native.Mathlib.Omega.{arith}
+use Rattle.integers.specs.Greatest.{greatest}
+
+-- up to n the test stays false once it is false
+abbrev pub Falls : (ℕ → Bool) → ℕ → Type 0
+Falls test n = (a b : ℕ) → a ≤ b → b ≤ n → test b ≡ true → test a ≡ true
+
+not-both : {b : Bool} → b ≡ true → b ≡ false → ⊥
+not-both p q = let z : _≡_ {A = Bool} true false = sym p ∙ q in subst (λ (b : Bool). cond b ℕ ⊥) z 0
+
+not-true : (b : Bool) → (b ≡ true → ⊥) → b ≡ false
+not-true true f = absurd (f refl)
+not-true false f = refl
+
+module _ (test : ℕ → Bool) where
+  pub greatest-le : (n : ℕ) → greatest test n ≤ n
+  unfolding greatest
+  greatest-le zero = zero-le
+  greatest-le (suc n) = at (test (suc n)) (greatest-le n)
+    where
+      at : (b : Bool) → greatest test n ≤ n → cond b (suc n) (greatest test n) ≤ suc n
+      at true h = le-refl (suc n)
+      at false h = le-trans h (le-suc n)
+
+  pub greatest-passes : test 0 ≡ true → (n : ℕ) → test (greatest test n) ≡ true
+  unfolding greatest
+  greatest-passes z zero = z
+  greatest-passes z (suc n) = at (test (suc n)) refl (greatest-passes z n)
+    where
+      at : (b : Bool) → test (suc n) ≡ b → test (greatest test n) ≡ true → test (cond b (suc n) (greatest test n)) ≡ true
+      at true e h = e
+      at false e h = h
+
+  pub greatest-here : (n : ℕ) → test n ≡ true → greatest test n ≡ n
+  unfolding greatest
+  greatest-here zero e = refl
+  greatest-here (suc n) e = ap (λ (b : Bool). cond b (suc n) (greatest test n)) e
+
+  -- numbers that fail at the upper end do not count
+  pub greatest-skip : (n m : ℕ) → m ≤ n → ((k : ℕ) → m < k → k ≤ n → test k ≡ false) → greatest test n ≡ greatest test m
+  unfolding greatest
+  greatest-skip zero m h fail = let e : 0 ≡ m = omega arith in ap (greatest test) e
+  greatest-skip (suc n) m h fail =
+      at (eq-or-lt-of-le h) (λ l. greatest-skip n m (le-of-suc-le-suc l) (λ k a b. fail k a (le-trans b (le-suc n))))
+    where
+      at :
+          (m ≡ suc n) ⊎ (m < suc n) →
+          (m < suc n → greatest test n ≡ greatest test m) →
+          cond (test (suc n)) (suc n) (greatest test n) ≡ greatest test m
+      at (inl e) rest = ap (greatest test) (sym e)
+      at (inr l) rest =
+          ap (λ (b : Bool). cond b (suc n) (greatest test n)) (fail (suc n) l (le-refl (suc n))) ∙ rest l
+
+  pub greatest-is : (n r : ℕ) → r ≤ n → test r ≡ true → ((k : ℕ) → r < k → k ≤ n → test k ≡ false) → greatest test n ≡ r
+  greatest-is n r h pass fail = greatest-skip n r h fail ∙ greatest-here r pass
+
+  -- whatever passes is at most the greatest
+  pub greatest-ge : (n k : ℕ) → k ≤ n → test k ≡ true → k ≤ greatest test n
+  unfolding greatest
+  greatest-ge zero k h e = h
+  greatest-ge (suc n) k h e = at (test (suc n)) refl (eq-or-lt-of-le h) (λ l. greatest-ge n k (le-of-suc-le-suc l) e)
+    where
+      at :
+          (b : Bool) →
+          test (suc n) ≡ b →
+          (k ≡ suc n) ⊎ (k < suc n) →
+          (k < suc n → k ≤ greatest test n) →
+          k ≤ cond b (suc n) (greatest test n)
+      at true t o rest = h
+      at false t (inl q) rest = absurd (not-both (subst (λ (j : ℕ). test j ≡ true) q e) t)
+      at false t (inr l) rest = rest l
+
+  -- ---- a test that stays false once it is false
+  module _ (n : ℕ) (falls : Falls test n) where
+    -- the step of a search: where mid fails, the greatest lies below it
+    pub greatest-lower : (mid : ℕ) → mid < n → test (suc mid) ≡ false → greatest test n ≡ greatest test mid
+    greatest-lower mid h e =
+        greatest-skip n mid (omega arith) (λ k a b. not-true (test k) (λ t. not-both (falls (suc mid) k a b t) e))
+
+    -- r passes and the next does not
+    pub greatest-edge : (r : ℕ) → r < n → test r ≡ true → test (suc r) ≡ false → greatest test n ≡ r
+    greatest-edge r h pass fail = greatest-lower r h fail ∙ greatest-here r pass

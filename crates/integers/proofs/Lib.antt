@@ -1,0 +1,4 @@
+pub mod Signs
+pub mod Rounding
+pub mod Greatest
+pub mod Squares

@@ -1,0 +1,84 @@
+-- Laws of root, and of Newton's iteration towards it: a step from above the root gives a smaller number that is not below it.
+-- Assumes nothing.
+use mathlib.Core.Path.{_≡_, refl, sym, ap, _∙_, subst}
+use mathlib.Core.Bool.{Bool, true, false}
+use mathlib.Core.Logic.{_⊎_, inl, inr}
+use Prim.Native.Nat.{ℕ, zero, suc, _+_, _*_, _/_, _-_, _<_, _≤_, zero-le}
+use native.Mathlib.Nat.{le-trans, le-of-lt, lt-of-lt-of-le, lt-of-le-of-lt, add-sub-of-le, mul-le-mul, lt-div-mul-add, div-lt-iff-lt-mul, not-le-of-lt}
+use native.Mathlib.Omega.{arith}
+use lib.Dec.{leb}
+use borrow.Author.Tests.{le-leb, lt-leb, leb-true, leb-false}
+use Rattle.integers.specs.Greatest.{greatest}
+use Rattle.integers.specs.Root.{root}
+use Rattle.integers.proofs.Greatest.{greatest-is, greatest-passes, greatest-ge}
+
+le-or-lt : (a b : ℕ) → (a ≤ b) ⊎ (b < a)
+le-or-lt a b = at (leb a b) refl
+  where
+    at : (t : Bool) → leb a b ≡ t → (a ≤ b) ⊎ (b < a)
+    at true e = inl (leb-true a b e)
+    at false e = inr (leb-false a b e)
+
+pub square-mono : {a b : ℕ} → a ≤ b → a * a ≤ b * b
+square-mono h = mul-le-mul h h
+
+self-le-square : (a : ℕ) → a ≤ a * a
+self-le-square zero = zero-le
+self-le-square (suc a) = omega arith
+
+-- the only number whose square is at most n and whose successor's square is above n
+pub root-is : (n r : ℕ) → r * r ≤ n → n < (r + 1) * (r + 1) → root n ≡ r
+unfolding root
+root-is n r low high =
+    greatest-is (λ k. leb (k * k) n) n r (le-trans (self-le-square r) low) (le-leb (r * r) n low)
+    (λ k a b. lt-leb (k * k) n (lt-of-lt-of-le high (square-mono (omega arith))))
+
+pub root-low : (n : ℕ) → root n * root n ≤ n
+unfolding root
+root-low n = leb-true (root n * root n) n (greatest-passes (λ k. leb (k * k) n) (le-leb 0 n zero-le) n)
+
+not-above : (n r : ℕ) → (r + 1) * (r + 1) ≤ n → r + 1 ≤ r → ⊥
+not-above n r h l = omega arith
+
+pub root-high : (n : ℕ) → n < (root n + 1) * (root n + 1)
+unfolding root
+root-high n = at (le-or-lt ((root n + 1) * (root n + 1)) n)
+  where
+    at : ((root n + 1) * (root n + 1) ≤ n) ⊎ (n < (root n + 1) * (root n + 1)) → n < (root n + 1) * (root n + 1)
+    at (inl h) = absurd (not-above n (root n) h (greatest-ge (λ k. leb (k * k) n) n (root n + 1) (le-trans (self-le-square (root n + 1)) h) (le-leb ((root n + 1) * (root n + 1)) n h)))
+    at (inr h) = h
+
+-- ---- Newton's iteration
+
+-- the geometric mean is at most the arithmetic one
+pub mean : (a b : ℕ) → 4 * (a * b) ≤ (a + b) * (a + b)
+mean a b = at (le-or-lt a b)
+  where
+    apart : (a d : ℕ) → 4 * (a * (a + d)) ≤ (a + (a + d)) * (a + (a + d))
+    apart a d = omega arith
+    other : (b d : ℕ) → 4 * ((b + d) * b) ≤ ((b + d) + b) * ((b + d) + b)
+    other b d = omega arith
+    at : (a ≤ b) ⊎ (b < a) → 4 * (a * b) ≤ (a + b) * (a + b)
+    at (inl h) = subst (λ (x : ℕ). 4 * (a * x) ≤ (a + x) * (a + x)) (add-sub-of-le h) (apart a (b - a))
+    at (inr h) = subst (λ (x : ℕ). 4 * (x * b) ≤ (x + b) * (x + b)) (add-sub-of-le (le-of-lt h)) (other b (a - b))
+
+
+pub newton-above : (n r : ℕ) → 0 < r → n < ((r + n / r) / 2 + 1) * ((r + n / r) / 2 + 1)
+newton-above n r h =
+    let q : ℕ = n / r in
+    let t : ℕ = (r + n / r) / 2 + 1 in
+    let big : (r + (q + 1)) * (r + (q + 1)) ≤ (2 * t) * (2 * t) = square-mono (omega arith) in
+    omega (arith, lt-div-mul-add {a = n} h, mean r (q + 1), big)
+
+pub positive : (n r : ℕ) → n < r * r → 0 < r
+positive n zero h = absurd (none h)
+  where
+    none : n < 0 * 0 → ⊥
+    none h = omega arith
+positive n (suc r) h = omega arith
+
+pub quotient-below : (n r : ℕ) → n < r * r → n / r < r
+quotient-below n r h = div-lt-iff-lt-mul (positive n r h) .1 h
+
+pub newton-below : (n r : ℕ) → n < r * r → (r + n / r) / 2 < r
+newton-below n r h = omega (arith, quotient-below n r h)
