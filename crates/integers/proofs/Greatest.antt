@@ -80,10 +80,12 @@ module _ (test : ℕ → Bool) where
   -- ---- a test that stays false once it is false
   module _ (n : ℕ) (falls : Falls test n) where
     -- the step of a search: where mid fails, the greatest lies below it
-    pub greatest-lower : (mid : ℕ) → mid < n → test (suc mid) ≡ false → greatest test n ≡ greatest test mid
-    greatest-lower mid h e =
-        greatest-skip n mid (omega arith) (λ k a b. not-true (test k) (λ t. not-both (falls (suc mid) k a b t) e))
+    pub greatest-lower : (mid : ℕ) → 0 < mid → mid ≤ n → test mid ≡ false → greatest test n ≡ greatest test (mid - 1)
+    greatest-lower mid p h e =
+        greatest-skip n (mid - 1) (omega arith) (λ k a b. not-true (test k) (λ t. not-both (falls mid k (omega arith) b t) e))
 
     -- r passes and the next does not
     pub greatest-edge : (r : ℕ) → r < n → test r ≡ true → test (suc r) ≡ false → greatest test n ≡ r
-    greatest-edge r h pass fail = greatest-lower r h fail ∙ greatest-here r pass
+    greatest-edge r h pass fail =
+        let e : suc r - 1 ≡ r = omega arith in
+        greatest-lower (suc r) (omega arith) h fail ∙ ap (greatest test) e ∙ greatest-here r pass

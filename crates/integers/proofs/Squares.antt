@@ -56,12 +56,13 @@ mean a b = at (le-or-lt a b)
   where
     apart : (a d : ℕ) → 4 * (a * (a + d)) ≤ (a + (a + d)) * (a + (a + d))
     apart a d = omega arith
+
     other : (b d : ℕ) → 4 * ((b + d) * b) ≤ ((b + d) + b) * ((b + d) + b)
     other b d = omega arith
+
     at : (a ≤ b) ⊎ (b < a) → 4 * (a * b) ≤ (a + b) * (a + b)
     at (inl h) = subst (λ (x : ℕ). 4 * (a * x) ≤ (a + x) * (a + x)) (add-sub-of-le h) (apart a (b - a))
     at (inr h) = subst (λ (x : ℕ). 4 * (x * b) ≤ (x + b) * (x + b)) (add-sub-of-le (le-of-lt h)) (other b (a - b))
-
 
 pub newton-above : (n r : ℕ) → 0 < r → n < ((r + n / r) / 2 + 1) * ((r + n / r) / 2 + 1)
 newton-above n r h =

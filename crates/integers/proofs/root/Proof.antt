@@ -86,7 +86,7 @@ div-r c = positive (c .before .before .args .n) (c .before .loop .r) (c .loop-te
 add-r : tie.Need-add-r Inv-loop μ-loop
 add-r c =
     record {
-      fits = omega (arith, quotient-below (c .before .before .args .n) (c .before .loop .r) (c .loop-test .taken), c .before .loop .inv .1)
+      fits = omega (arith, quotient-below (c .before .before .args .n) (c .before .loop .r) (c .loop-test .taken), c .before .loop .inv .1);
     }
 
 loop-less : tie.Need-loop-less Inv-loop μ-loop
@@ -95,9 +95,10 @@ loop-less c = newton-below (c .before .before .args .n) (c .before .loop .r) (c 
 loop-again : tie.Need-loop-again Inv-loop μ-loop
 loop-again c =
     let n : ℕ = c .before .before .args .n in
-    let r : ℕ = c .before .loop .r in
-    (newton-above n r (positive n r (c .loop-test .taken)),
-    omega (arith, newton-below n r (c .loop-test .taken), c .before .loop .inv .1))
+    let r : ℕ = c .before .loop .r in (
+      newton-above n r (positive n r (c .loop-test .taken)),
+      omega (arith, newton-below n r (c .loop-test .taken), c .before .loop .inv .1),
+    )
 
 returns : tie.Need-returns Inv-loop μ-loop
 returns c = sym (root-is (c .before .before .args .n) (c .before .loop .r) (c .loop-test .left) (c .before .loop .inv .0))

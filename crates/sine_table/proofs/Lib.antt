@@ -1,0 +1,2 @@
+mod Orders
+pub mod Laws

@@ -1,0 +1,103 @@
+-- The laws of sine and cosine, for every integer angle: what the other crates know of them. Nothing above this file looks into the table or between its minutes.
+-- Assumes nothing.
+use mathlib.Core.Path.{_≡_, refl, sym, ap, ap₂, _∙_, subst}
+use mathlib.Core.List.{[], _∷_}
+use Prim.Native.Nat.{ℕ, zero, suc, _+_, _-_, _*_, _<_, _≤_}
+use native.Mathlib.Nat.{le-refl, le-trans}
+use native.Mathlib.Numerals.{add-one}
+use native.Mathlib.Omega.{arith}
+use lib.IntN.{ℤ, pos, negsuc, negℤ, natAbs, _+ℤ_, _-ℤ_, _*ℤ_, +ℤ-idr, +ℤ-invr, +ℤ-assoc}
+use Rattle.proof_kit.proofs.Ring.{ring, quote}
+use Rattle.proof_kit.proofs.Size.{near, abs-neg, abs-via, abs-sub-sym}
+use Rattle.sine_table.specs.Table.{unit}
+use Rattle.trig.specs.Sine.{right-angle, half-turn, full-turn, first-quarter, sine, cosine}
+use Rattle.trig.proofs.Quarter.{NearCircle, quarter-mono, quarter-step, quarter-slope, quarter-circle, quarter-at-most}
+use Rattle.trig.proofs.Symmetry.{sine-first, cosine-first, sine-quarter-turn, cosine-quarter-turn}
+use Rattle.trig.proofs.Turns.{bounded}
+
+-- ---- range
+
+within-unit : (t : ℤ) → (natAbs (sine t) ≤ unit) × (natAbs (cosine t) ≤ unit)
+within-unit =
+    bounded (λ t. natAbs (sine t)) (λ t. natAbs (cosine t)) unit
+    (λ θ h. (rw (sine-first θ (omega arith)) (quarter-at-most (omega arith)), rw (cosine-first θ (omega arith)) (quarter-at-most (omega arith))))
+    (λ t. ap natAbs (sine-quarter-turn t))
+    (λ t. ap natAbs (cosine-quarter-turn t) ∙ abs-neg (sine t))
+
+pub sine-size : (t : ℤ) → natAbs (sine t) ≤ unit
+sine-size t = within-unit t .0
+
+pub cosine-size : (t : ℤ) → natAbs (cosine t) ≤ unit
+cosine-size t = within-unit t .1
+
+-- ---- step: at most 5 for each mas
+
+close : (θ : ℕ) → θ < right-angle → natAbs (pos (first-quarter (suc θ)) -ℤ pos (first-quarter θ)) ≤ 5
+close θ h =
+    near (first-quarter (suc θ)) (first-quarter θ) (quarter-step θ h)
+    (le-trans (quarter-mono {a = θ} {b = suc θ} (omega arith) h) (omega arith))
+
+steps-base : (θ : ℕ) → θ < right-angle → (natAbs (sine (pos θ +ℤ pos 1) -ℤ sine (pos θ)) ≤ 5) × (natAbs (cosine (pos θ +ℤ pos 1) -ℤ cosine (pos θ)) ≤ 5)
+steps-base θ h =
+    let next : θ + 1 ≡ suc θ = omega arith in
+    let before : ℕ = right-angle - suc θ in
+    let back : right-angle - θ ≡ suc before = omega arith in (
+      rw (next, sine-first (suc θ) h, sine-first θ (omega arith)) (close θ h),
+      rw (next, cosine-first (suc θ) h, cosine-first θ (omega arith), back, abs-sub-sym (pos (first-quarter before)) (pos (first-quarter (suc before))))
+          (close before (omega arith)),
+    )
+
+swap : (t : ℤ) → t +ℤ pos right-angle +ℤ pos 1 ≡ t +ℤ pos 1 +ℤ pos right-angle
+swap t = ring (t ∷ []) (search quote depth 40 fits 20000) tt
+
+neg-gap : (x y : ℤ) → natAbs (negℤ x -ℤ negℤ y) ≡ natAbs (x -ℤ y)
+neg-gap x y =
+    let e : negℤ x -ℤ negℤ y ≡ negℤ (x -ℤ y) = ring (x ∷ y ∷ []) (search quote depth 40 fits 20000) tt in
+    ap natAbs e ∙ abs-neg (x -ℤ y)
+
+steps : (t : ℤ) → (natAbs (sine (t +ℤ pos 1) -ℤ sine t) ≤ 5) × (natAbs (cosine (t +ℤ pos 1) -ℤ cosine t) ≤ 5)
+steps =
+    bounded (λ t. natAbs (sine (t +ℤ pos 1) -ℤ sine t)) (λ t. natAbs (cosine (t +ℤ pos 1) -ℤ cosine t)) 5 steps-base
+    (λ t. rw (swap t, sine-quarter-turn (t +ℤ pos 1), sine-quarter-turn t))
+    (λ t. rw (swap t, cosine-quarter-turn (t +ℤ pos 1), cosine-quarter-turn t) (neg-gap (sine (t +ℤ pos 1)) (sine t)))
+
+pub sine-step : (t : ℤ) → natAbs (sine (t +ℤ pos 1) -ℤ sine t) ≤ 5
+sine-step t = steps t .0
+
+-- by n mas the sine changes by at most 5n
+pub sine-change : (n : ℕ) (t : ℤ) → natAbs (sine (t +ℤ pos n) -ℤ sine t) ≤ 5 * n
+sine-change zero t =
+    let none : sine t -ℤ sine t ≡ pos 0 = +ℤ-invr (sine t) in
+    rw (+ℤ-idr t, none) (omega arith)
+sine-change (suc n) t =
+    let more : t +ℤ pos (suc n) ≡ t +ℤ pos n +ℤ pos 1 = ap (λ (m : ℕ). t +ℤ pos m) (sym (add-one n)) ∙ sym (+ℤ-assoc t (pos n) (pos 1)) in
+    rw more
+    (omega (arith, abs-via (sine (t +ℤ pos n +ℤ pos 1)) (sine (t +ℤ pos n)) (sine t), sine-step (t +ℤ pos n), sine-change n t))
+
+-- ---- sine² + cosine²
+
+-- A: sine² + cosine² differs from U² by at most A·U
+abbrev pub A : ℕ
+A = 25
+
+radius-gap : ℤ → ℕ
+radius-gap t = natAbs (sine t *ℤ sine t +ℤ cosine t *ℤ cosine t -ℤ pos unit *ℤ pos unit)
+
+turned : (s c : ℤ) → c *ℤ c +ℤ negℤ s *ℤ negℤ s -ℤ pos unit *ℤ pos unit ≡ s *ℤ s +ℤ c *ℤ c -ℤ pos unit *ℤ pos unit
+turned s c = ring (s ∷ c ∷ []) (search quote depth 40 fits 20000) tt
+
+radius-turn : (t : ℤ) → radius-gap (t +ℤ pos right-angle) ≡ radius-gap t
+unfolding radius-gap
+radius-turn t =
+    rw (sine-quarter-turn t, cosine-quarter-turn t) (ap natAbs (turned (sine t) (cosine t)))
+
+radius-base : (θ : ℕ) → θ < right-angle → radius-gap (pos θ) ≤ A * unit
+unfolding radius-gap
+radius-base θ h =
+    let c = quarter-circle θ (omega arith) in
+    rw (sine-first θ (omega arith), cosine-first θ (omega arith))
+    (near (first-quarter θ * first-quarter θ + first-quarter (right-angle - θ) * first-quarter (right-angle - θ)) (unit * unit) (c .not-outside) (c .not-inside))
+
+pub near-circle : (t : ℤ) → natAbs (sine t *ℤ sine t +ℤ cosine t *ℤ cosine t -ℤ pos unit *ℤ pos unit) ≤ A * unit
+unfolding radius-gap
+near-circle t = bounded radius-gap radius-gap (A * unit) (λ θ h. (radius-base θ h, radius-base θ h)) radius-turn radius-turn t .0

@@ -1,0 +1,39 @@
+-- `trig::cosine` meets its contract. Assumes nothing.
+use borrow.Author.Needs.{needs}
+use mathlib.Core.Path.{_≡_, sym, ap, _∙_, subst}
+use Prim.Native.Nat.{ℕ, _<_, _≤_, _^_}
+use native.Mathlib.Omega.{arith}
+use lib.IntN.{ℤ, pos, negsuc, natAbs, _-ℤ_}
+use lib.Signed.{mag}
+use mir.Syntax.{w64}
+use mir.Val.{toZ, ofZ, SFits}
+use mir.Facts.{toZ-ofZ}
+use Rattle.proof_kit.proofs.Size.{abs-sub}
+use Rattle.trig.specs.Sine.{right-angle, sine, cosine}
+use Rattle.trig.proofs.cosine.Statement.{statement}
+use Rattle.trig.proofs.cosine.Tie as tie
+
+-- a number of this size is an i64
+small-fits : (z : ℤ) → natAbs z < 2 ^ 63 → SFits w64 z
+small-fits (pos n) h = record { sfits = h }
+small-fits (negsuc n) h = record { sfits = omega arith }
+
+complement-fits : (z : ℤ) → natAbs z < 2 ^ 62 → SFits w64 (pos right-angle -ℤ z)
+complement-fits z h = small-fits (pos right-angle -ℤ z) (omega (arith, abs-sub (pos right-angle) z))
+
+sub-sine : tie.Need-sub-sine
+sub-sine c = rw (toZ-ofZ (c .fits .theta)) (complement-fits (c .args .theta) (c .pre .1))
+
+sine-requires : tie.Need-sine-requires
+sine-requires c κs = search needs
+
+returns : tie.Need-returns
+unfolding cosine
+returns c =
+    let start = c .before in
+    toZ-ofZ {w = w64} (record { sfits = c .sine .ok })
+    ∙ c .sine .ensures
+    ∙ ap sine (toZ-ofZ (rw (toZ-ofZ (start .fits .theta)) (complement-fits (start .args .theta) (start .pre .1))) ∙ ap (λ (z : ℤ). pos right-angle -ℤ z) (toZ-ofZ (start .fits .theta)))
+
+pub cosine-spec : {M : Type 1} → statement M
+cosine-spec = tie.close (tie.spec sub-sine sine-requires returns)
