@@ -1,10 +1,18 @@
 -- Laws of near. Each is proved once over n and d: for n ≥ 0 on the natural numbers first, then for every n by the sign.
 -- Assumes nothing.
 use mathlib.Core.Path.{_≡_, refl, sym, ap, _∙_, subst}
-use mathlib.Core.Bool.{Bool, true, false}
+use mathlib.Core.Bool.{Bool}
+use mathlib.Core.List.{[], _∷_}
 use Prim.Native.Nat.{ℕ, zero, suc, _+_, _*_, _/_, _%_, _<_, _≤_, _^_}
 use native.Mathlib.Nat.{div-eq-of-lt-le, div-add-mod, mod-lt, div-mul-le-self, lt-div-mul-add, le-div-iff-mul-le, le-trans, le-of-lt, mul-le-mul-right, div-le-self}
 use native.Mathlib.Omega.{arith}
+use lib.Dec.{leb·suc-zero}
+use lib.IntN.{ℤ, pos, negsuc, negℤ, natAbs, _+ℤ_, _-ℤ_, _*ℤ_, negℤ-negℤ}
+use lib.Signed.{_≤ℤ_}
+use Rattle.proof_kit.proofs.Laws.{natAbs-parts, parts--, one-part, P-neg, N-neg, negℤ-*ˡ, diff-zero}
+use Rattle.proof_kit.proofs.Ring.{ring, quote}
+use Rattle.proof_kit.proofs.Size.{abs-neg, abs-sub-sym, abs-via, abs-mul}
+use Rattle.proof_kit.proofs.Order.{order}
 use Rattle.integers.specs.Near.{near, nearest, signed}
 
 double-pos : {d : ℕ} → 0 < d → 0 < 2 * d
@@ -51,3 +59,79 @@ nearest-halved n d h =
 
 pub nearest-le : (n d : ℕ) → 0 < d → nearest n d ≤ n + d / 2
 nearest-le n d h = subst (λ (q : ℕ). q ≤ n + d / 2) (nearest-halved n d h) (div-le-self (n + d / 2) d)
+
+-- ---- every n
+
+pub near-pos : (n d : ℕ) → near (pos n) d ≡ pos (nearest n d)
+unfolding near
+near-pos n d = ap (λ (b : Bool). signed b (nearest n d)) (leb·suc-zero n)
+
+pub near-neg : (n d : ℕ) → 0 < d → near (negℤ (pos n)) d ≡ negℤ (pos (nearest n d))
+unfolding near
+near-neg zero d h =
+    near-pos 0 d ∙ ap pos (nearest-zero d h) ∙ ap (λ (q : ℕ). negℤ (pos q)) (sym (nearest-zero d h))
+near-neg (suc n) d h = refl
+
+pub near-odd : (n : ℤ) (d : ℕ) → 0 < d → near (negℤ n) d ≡ negℤ (near n d)
+near-odd (pos n) d h = near-neg n d h ∙ ap negℤ (sym (near-pos n d))
+near-odd (negsuc n) d h =
+    near-pos (suc n) d ∙ sym (negℤ-negℤ (pos (nearest (suc n) d))) ∙ ap negℤ (sym (near-neg (suc n) d h))
+
+pub near-size : (n : ℤ) (d : ℕ) → natAbs (near n d) ≡ nearest (natAbs n) d
+unfolding near
+near-size (pos n) d = ap natAbs (near-pos n d)
+near-size (negsuc n) d = abs-neg (pos (nearest (suc n) d))
+
+turned : (q d n : ℤ) → negℤ q *ℤ d -ℤ negℤ n ≡ negℤ (q *ℤ d -ℤ n)
+turned q d n = ring (q ∷ d ∷ n ∷ []) (search quote depth 40 fits 20000) tt
+
+-- twice the distance from n/d is at most d
+nearest-close : (n d : ℕ) → 0 < d → 2 * natAbs (pos (nearest n d * d) -ℤ pos n) ≤ d
+nearest-close n d h =
+    let gap : ℤ = pos (nearest n d * d) -ℤ pos n in
+    omega (arith, natAbs-parts gap, parts-- (pos (nearest n d * d)) (pos n), one-part gap, nearest-low n h, nearest-high n h)
+
+pub near-close : (n : ℤ) (d : ℕ) → 0 < d → 2 * natAbs (near n d *ℤ pos d -ℤ n) ≤ d
+near-close (pos n) d h = rw (near-pos n d) (nearest-close n d h)
+near-close (negsuc n) d h =
+    let q : ℕ = nearest (suc n) d in
+    rw (near-neg (suc n) d h, turned (pos q) (pos d) (pos (suc n)), abs-neg (pos (q * d) -ℤ pos (suc n)))
+    (nearest-close (suc n) d h)
+
+pub near-mono : (m n : ℤ) (d : ℕ) → 0 < d → m ≤ℤ n → near m d ≤ℤ near n d
+near-mono (pos m) (pos n) d h l =
+    let k : m ≤ n = omega order in
+    rw (near-pos m d, near-pos n d) (omega (order, nearest-mono d h k))
+near-mono (pos m) (negsuc n) d h l = let e : ⊥ = omega order in absurd e
+near-mono (negsuc m) (pos n) d h l =
+    let q : ℤ = pos (nearest (suc m) d) in
+    rw (near-neg (suc m) d h, near-pos n d) (omega (order, P-neg q, N-neg q))
+near-mono (negsuc m) (negsuc n) d h l =
+    let k : suc n ≤ suc m = omega order in
+    let q : ℤ = pos (nearest (suc m) d) in
+    let r : ℤ = pos (nearest (suc n) d) in
+    rw (near-neg (suc m) d h, near-neg (suc n) d h) (omega (order, P-neg q, N-neg q, P-neg r, N-neg r, nearest-mono d h k))
+
+pub near-whole : (k : ℤ) (d : ℕ) → 0 < d → near (k *ℤ pos d) d ≡ k
+near-whole (pos k) d h = near-pos (k * d) d ∙ ap pos (nearest-whole k d h)
+near-whole (negsuc k) d h = near-neg (suc k * d) d h ∙ ap (λ (q : ℕ). negℤ (pos q)) (nearest-whole (suc k) d h)
+
+-- off the halves it is the only such number
+pub near-only : (n q : ℤ) (d : ℕ) → 2 * natAbs (q *ℤ pos d -ℤ n) < d → near n d ≡ q
+near-only n q d h =
+    let r : ℤ = near n d in
+    let some : 0 < d = omega arith in
+    let apart : natAbs (r *ℤ pos d -ℤ q *ℤ pos d) < d = omega (arith, abs-via (r *ℤ pos d) n (q *ℤ pos d), abs-sub-sym n (q *ℤ pos d), near-close n d some) in
+    let product : natAbs (r -ℤ q) * d < d = rw (factored r q (pos d), abs-mul (r -ℤ q) (pos d)) at apart in
+    diff-zero r q (no-size (r -ℤ q) (below-one (natAbs (r -ℤ q)) d product))
+  where
+    factored : (r q d : ℤ) → r *ℤ d -ℤ q *ℤ d ≡ (r -ℤ q) *ℤ d
+    factored r q d = ring (r ∷ q ∷ d ∷ []) (search quote depth 40 fits 20000) tt
+
+    below-one : (a d : ℕ) → a * d < d → a ≡ 0
+    below-one zero d h = refl
+    below-one (suc a) d h = let e : ⊥ = omega arith in absurd e
+
+    no-size : (z : ℤ) → natAbs z ≡ 0 → z ≡ pos 0
+    no-size (pos a) e = ap pos e
+    no-size (negsuc a) e = let f : ⊥ = omega arith in absurd f

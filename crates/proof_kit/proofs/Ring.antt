@@ -1,14 +1,14 @@
 -- A ring normaliser for ℤ: proves an identity of sums, differences and products of integers by computation.
 -- `search` writes a number as a term over the listed variables (`Term`), the term becomes a polynomial (`poly`), and the identity holds if the polynomial of the difference has only zero coefficients.
 -- Use: `ring (x ∷ y ∷ []) (search quote depth 40 fits 20000) tt : lhs ≡ rhs`.
-use mathlib.Core.Path.{_≡_, refl, sym, ap, ap₂, _∙_, subst}
+use mathlib.Core.Path.{_≡_, refl, sym, ap, ap₂, _∙_}
 use mathlib.Core.Bool.{Bool, true, false, _&&_}
 use mathlib.Core.List.{List, [], _∷_}
 use Prim.Native.Nat.{ℕ, zero, suc}
 use lib.Dec.{T, leb}
-use lib.IntN.{ℤ, pos, negsuc, _+ℤ_, _-ℤ_, _*ℤ_, negℤ, +ℤ-idl, +ℤ-idr, +ℤ-assoc, +ℤ-comm, *ℤ-comm, zero-*ℤ, *ℤ-zero, negℤ-+ℤ, one, *ℤ-one}
+use lib.IntN.{ℤ, pos, negsuc, _+ℤ_, _-ℤ_, _*ℤ_, negℤ, +ℤ-idl, +ℤ-idr, +ℤ-assoc, +ℤ-comm, *ℤ-comm, zero-*ℤ, *ℤ-zero, +ℤ-invr, one, *ℤ-one}
 use mir.Facts.{and-yes}
-use Rattle.proof_kit.proofs.Laws.{*ℤ-assoc, *ℤ-distribˡ, *ℤ-distribʳ, negℤ-*ˡ, negℤ-*ʳ, +ℤ-pairs, diff-zero}
+use Rattle.proof_kit.proofs.Laws.{*ℤ-assoc, *ℤ-distribˡ, *ℤ-distribʳ, negℤ-*ˡ, +ℤ-pairs, diff-zero}
 
 -- ---- terms
 
@@ -17,17 +17,16 @@ pub data At : List ℤ → ℤ → Type 0 where
   here : {x : ℤ} {r : List ℤ} → At (x ∷ r) x
   there : {x y : ℤ} {r : List ℤ} → At r x → At (y ∷ r) x
 
--- how the number is built from the variables r. A numeral is a closed one: `leb n n` computes there, and `refl` shows it.
+-- how the number is built from the variables r; `x -ℤ y` is `x +ℤ negℤ y`. A numeral is a closed one: `leb n n` computes there, and `refl` shows it.
 pub data Term (r : List ℤ) : ℤ → Type 0 where
   plus : {x y : ℤ} → Term r x → Term r y → Term r (x +ℤ y)
   times : {x y : ℤ} → Term r x → Term r y → Term r (x *ℤ y)
-  minus : {x y : ℤ} → Term r x → Term r y → Term r (x -ℤ y)
   neg : {x : ℤ} → Term r x → Term r (negℤ x)
   var : {x : ℤ} → At r x → Term r x
   num : (n : ℕ) → leb n n ≡ true → Term r (pos n)
   num⁻ : (n : ℕ) → leb n n ≡ true → Term r (negsuc n)
 
-pub ruleset quote = (plus, times, minus, neg, var, here, there, num, num⁻)
+pub ruleset quote = (plus, times, neg, var, here, there, num, num⁻)
 
 -- ---- polynomials
 
@@ -66,15 +65,17 @@ abbrev pub scale : ℤ → Poly → Poly
 scale c (con d) = con (c *ℤ d)
 scale c (node p q) = node (scale c p) (scale c q)
 
--- f applied to the part of a polynomial without the first variable, at each power of that variable; f takes 0 to 0
+-- f at s, without the walk where s is 0: f multiplies
 abbrev pub low : (Poly → Poly) → Poly → Poly
 low f (con c) = elim (is-zero c) [ true ↦ con (pos 0) | false ↦ f (con c) ]
 low f (node p q) = f (node p q)
 
+-- a polynomial of the other variables, as one of all
 abbrev pub lift : Poly → Poly
 lift (con c) = con c
 lift (node p q) = node (con (pos 0)) (node p q)
 
+-- f at the coefficient of each power of the first variable, a polynomial of the others
 abbrev pub each : (Poly → Poly) → Poly → Poly
 each f (con c) = lift (low f (con c))
 each f (node p q) = node (each f p) (low f q)
@@ -90,7 +91,6 @@ variable (there a) = node (con (pos 0)) (variable a)
 abbrev pub poly : {r : List ℤ} {z : ℤ} → Term r z → Poly
 poly (plus a b) = add (poly a) (poly b)
 poly (times a b) = mul (poly a) (poly b)
-poly (minus a b) = add (poly a) (scale (negsuc 0) (poly b))
 poly (neg a) = scale (negsuc 0) (poly a)
 poly (var a) = variable a
 poly (num n e) = con (pos n)
@@ -100,7 +100,7 @@ abbrev pub all-zero : Poly → Bool
 all-zero (con c) = is-zero c
 all-zero (node p q) = all-zero p && all-zero q
 
--- ---- each operation on polynomials has the value that its name says
+-- ---- the value of each operation on polynomials is that of the operation on numbers
 
 swap : (a b c : ℤ) → a +ℤ (b +ℤ c) ≡ b +ℤ (a +ℤ c)
 swap a b c = sym (+ℤ-assoc a b c) ∙ ap (λ (z : ℤ). z +ℤ c) (+ℤ-comm a b) ∙ +ℤ-assoc b a c
@@ -176,8 +176,7 @@ value-mul r (node p q) t =
 value-variable : {r : List ℤ} {x : ℤ} (a : At r x) → value r (variable a) ≡ x
 unfolding value one
 value-variable (here {x}) = +ℤ-idr (pos 1 *ℤ x) ∙ *ℤ-comm (pos 1) x ∙ *ℤ-one x
-value-variable (there {x} {y} {r} a) =
-    ap₂ _+ℤ_ (zero-*ℤ y) (value-variable a) ∙ +ℤ-idl x
+value-variable (there {x} {y} {r} a) = ap₂ _+ℤ_ (zero-*ℤ y) (value-variable a) ∙ +ℤ-idl x
 
 minus-one : (x : ℤ) → negsuc 0 *ℤ x ≡ negℤ x
 unfolding one
@@ -187,9 +186,6 @@ sound : {r : List ℤ} {z : ℤ} (t : Term r z) → value r (poly t) ≡ z
 unfolding value
 sound {r} (plus a b) = value-add r (poly a) (poly b) ∙ ap₂ _+ℤ_ (sound a) (sound b)
 sound {r} (times a b) = value-mul r (poly a) (poly b) ∙ ap₂ _*ℤ_ (sound a) (sound b)
-sound {r} (minus {x} {y} a b) =
-    value-add r (poly a) (scale (negsuc 0) (poly b))
-    ∙ ap₂ _+ℤ_ (sound a) (value-scale r (negsuc 0) (poly b) ∙ minus-one (value r (poly b)) ∙ ap negℤ (sound b))
 sound {r} (neg a) = value-scale r (negsuc 0) (poly a) ∙ minus-one (value r (poly a)) ∙ ap negℤ (sound a)
 sound (var a) = value-variable a
 sound (num n e) = refl
@@ -213,3 +209,8 @@ value-zero r (node p q) t =
 -- two numbers are equal if their difference, written over the variables r, has only zero coefficients
 pub ring : (r : List ℤ) {x y : ℤ} (t : Term r (x -ℤ y)) → T (all-zero (poly t)) → x ≡ y
 ring r {x} {y} t z = diff-zero x y (sym (sound t) ∙ value-zero r (poly t) z)
+
+-- the same under an equation, which may be used any number k of times: x − y is k · (u − v)
+pub ring-from : (r : List ℤ) (k : ℤ) {u v x y : ℤ} → u ≡ v → (t : Term r (x -ℤ y -ℤ k *ℤ (u -ℤ v))) → T (all-zero (poly t)) → x ≡ y
+ring-from r k {u} {v} {x} {y} e t z =
+    diff-zero x y (ring r t z ∙ ap (λ (w : ℤ). k *ℤ (w -ℤ v)) e ∙ ap (λ (w : ℤ). k *ℤ w) (+ℤ-invr v) ∙ *ℤ-zero k)

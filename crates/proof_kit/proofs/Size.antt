@@ -1,12 +1,13 @@
 -- Sizes: the laws of `natAbs`, by which an error or a range is one bound in ℕ, and squares of ℕ.
 -- State a bound as `natAbs z ≤ A`, split z by `ring`, bound each part here, and let `omega` add the bounds up.
 use mathlib.Core.Path.{_≡_, refl}
-use Prim.Native.Nat.{ℕ, suc, _+_, _*_, _≤_, _<_}
+use Prim.Native.Nat.{ℕ, zero, suc, _+_, _*_, _/_, _%_, _≤_, _<_, zero-le}
 use native.Mathlib.Decide.{decLe}
-use native.Mathlib.Nat.{le-refl, le-trans, mul-le-mul, lt-of-mul-lt-mul-left}
+use native.Mathlib.Nat.{le-refl, le-trans, mul-le-mul, lt-of-mul-lt-mul-left, div-zero, div-mul-le-self, le-div-iff-mul-le}
 use native.Mathlib.Omega.{arith}
 use lib.IntN.{ℤ, pos, negsuc, _+ℤ_, _-ℤ_, _*ℤ_, negℤ, natAbs}
-use Rattle.proof_kit.proofs.Laws.{P, N, one-part, natAbs-parts, parts-+, parts--, P-neg, N-neg, P-*, N-*}
+use lib.Signed.{quotZ, remZ}
+use Rattle.proof_kit.proofs.Laws.{one-part, natAbs-parts, parts-+, parts--, P-neg, N-neg, P-*, N-*}
 
 -- ---- sums and differences
 
@@ -53,16 +54,34 @@ abs-cancel k x {y} {n} h l =
     let lt : natAbs x < suc n = lt-of-mul-lt-mul-left k below in
     omega arith
 
--- ---- a size as two bounds
+-- ---- quotients and remainders, as `i64` has them
 
-pub near-upper : (a b : ℕ) {d : ℕ} → natAbs (pos a -ℤ pos b) ≤ d → a ≤ b + d
-near-upper a b h = omega (arith, natAbs-parts (pos a -ℤ pos b), parts-- (pos a) (pos b))
+pub abs-quot : (x y : ℤ) → natAbs (quotZ x y) ≡ natAbs x / natAbs y
+abs-quot (pos a) (pos b) = refl
+abs-quot (pos a) (negsuc b) = abs-neg (pos (a / suc b))
+abs-quot (negsuc a) (pos b) = abs-neg (pos (suc a / b))
+abs-quot (negsuc a) (negsuc b) = refl
 
-pub near-lower : (a b : ℕ) {d : ℕ} → natAbs (pos a -ℤ pos b) ≤ d → b ≤ a + d
-near-lower a b h = omega (arith, natAbs-parts (pos a -ℤ pos b), parts-- (pos a) (pos b))
+pub abs-rem : (x y : ℤ) → natAbs (remZ x y) ≡ natAbs x % natAbs y
+abs-rem (pos a) y = refl
+abs-rem (negsuc a) y = abs-neg (pos (suc a % natAbs y))
 
-pub near : (a b : ℕ) {d : ℕ} → a ≤ b + d → b ≤ a + d → natAbs (pos a -ℤ pos b) ≤ d
-near a b h k =
+pub div-mono : (k : ℕ) {m n : ℕ} → m ≤ n → m / k ≤ n / k
+div-mono zero {m} {n} h = rw (div-zero m, div-zero n) zero-le
+div-mono (suc k) {m} {n} h =
+    let p : 0 < suc k = omega arith in
+    le-div-iff-mul-le {k = suc k} {x = m / suc k} {y = n} p .1 (le-trans (div-mul-le-self m (suc k)) h)
+
+-- ---- a size as two bounds, of two naturals that are at most d apart
+
+pub within-upper : (a b : ℕ) {d : ℕ} → natAbs (pos a -ℤ pos b) ≤ d → a ≤ b + d
+within-upper a b h = omega (arith, natAbs-parts (pos a -ℤ pos b), parts-- (pos a) (pos b))
+
+pub within-lower : (a b : ℕ) {d : ℕ} → natAbs (pos a -ℤ pos b) ≤ d → b ≤ a + d
+within-lower a b h = omega (arith, natAbs-parts (pos a -ℤ pos b), parts-- (pos a) (pos b))
+
+pub within : (a b : ℕ) {d : ℕ} → a ≤ b + d → b ≤ a + d → natAbs (pos a -ℤ pos b) ≤ d
+within a b h k =
     omega (arith, natAbs-parts (pos a -ℤ pos b), parts-- (pos a) (pos b), one-part (pos a -ℤ pos b))
 
 -- ---- squares of ℕ
@@ -85,22 +104,20 @@ square-lt x y h = go (decLe y x)
 
 -- ---- the size of a whole expression
 
--- how the number is built from numbers whose sizes are known
+-- how the number is built from numbers whose sizes are known; `x -ℤ y` is `x +ℤ negℤ y`
 pub data Sized : ℤ → Type 0 where
   plus : {x y : ℤ} → Sized x → Sized y → Sized (x +ℤ y)
-  minus : {x y : ℤ} → Sized x → Sized y → Sized (x -ℤ y)
   times : {x y : ℤ} → Sized x → Sized y → Sized (x *ℤ y)
   neg : {x : ℤ} → Sized x → Sized (negℤ x)
   num : (n : ℕ) → Sized (pos n)
   num⁻ : (n : ℕ) → Sized (negsuc n)
   given : {x : ℤ} {n : ℕ} → natAbs x ≤ n → Sized x
 
-pub ruleset sizes = (plus, minus, times, neg, num, num⁻, given)
+pub ruleset sizes = (plus, times, neg, num, num⁻, given)
 
--- the bound that follows
+-- the bound that follows for it
 abbrev pub most : {z : ℤ} → Sized z → ℕ
 most (plus a b) = most a + most b
-most (minus a b) = most a + most b
 most (times a b) = most a * most b
 most (neg a) = most a
 most (num n) = n
@@ -109,25 +126,25 @@ most (given {x} {n} h) = n
 
 at-most : {z : ℤ} (s : Sized z) → natAbs z ≤ most s
 at-most (plus {x} {y} a b) = abs-add-le x y (at-most a) (at-most b)
-at-most (minus {x} {y} a b) = abs-sub-le x y (at-most a) (at-most b)
 at-most (times {x} {y} a b) = abs-mul-le x y (at-most a) (at-most b)
 at-most (neg {x} a) = rw abs-neg (at-most a)
 at-most (num n) = le-refl n
 at-most (num⁻ n) = le-refl (suc n)
 at-most (given h) = h
 
--- `natAbs`, as a name that stays closed, so that the number is found from the goal
-pub size : ℤ → ℕ
+-- `natAbs` under a name that stays closed: antt finds the number of a goal `size z ≤ B`, and not that of `natAbs z ≤ B`
+unfoldable pub size : ℤ → ℕ
 size z = natAbs z
 
 pub as-size : (z : ℤ) → natAbs z ≡ size z
 unfolding size
 as-size z = refl
 
+-- a bound on an expression: `rw as-size (abs-le (search sizes depth 40 fits 20000) (omega arith)) : natAbs (..) ≤ B`
 pub abs-le : {z : ℤ} {B : ℕ} (s : Sized z) → most s ≤ B → size z ≤ B
 unfolding size
 abs-le s h = le-trans (at-most s) h
 
--- the same of a number that equals the expression, most often by `ring`
+-- and on a number that equals one, most often by `ring`: `abs-by e (search sizes depth 40 fits 20000) (omega arith)`
 pub abs-by : {z w : ℤ} {B : ℕ} → z ≡ w → (s : Sized w) → most s ≤ B → natAbs z ≤ B
 abs-by e s h = rw e (le-trans (at-most s) h)

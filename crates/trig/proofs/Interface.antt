@@ -6,13 +6,17 @@ use Prim.Native.Nat.{ℕ, zero, suc, _+_, _-_, _*_, _<_, _≤_}
 use native.Mathlib.Nat.{le-refl, le-trans}
 use native.Mathlib.Numerals.{add-one}
 use native.Mathlib.Omega.{arith}
+use lib.Signed.{_≤ℤ_}
 use lib.IntN.{ℤ, pos, negsuc, negℤ, natAbs, _+ℤ_, _-ℤ_, _*ℤ_, +ℤ-idr, +ℤ-invr, +ℤ-assoc}
 use Rattle.proof_kit.proofs.Ring.{ring, quote}
-use Rattle.proof_kit.proofs.Size.{near, abs-neg, abs-via, abs-sub-sym}
-use Rattle.sine_table.specs.Table.{unit}
+use Rattle.proof_kit.proofs.Order.{pos-≤ℤ, le-by}
+use Rattle.proof_kit.proofs.Size.{within, abs-neg, abs-via, abs-sub-sym}
+use Rattle.sine_table.specs.Table.{unit, entry}
+use Rattle.sine_table.proofs.Laws.{entry-59, entry-300}
 use Rattle.trig.specs.Sine.{right-angle, half-turn, full-turn, first-quarter, sine, cosine}
-use Rattle.trig.proofs.Quarter.{NearCircle, quarter-mono, quarter-step, quarter-slope, quarter-circle, quarter-at-most}
-use Rattle.trig.proofs.Symmetry.{sine-first, cosine-first, sine-quarter-turn, cosine-quarter-turn}
+use Rattle.trig.proofs.Quarter.{NearCircle, quarter-mono, quarter-step, quarter-slope, quarter-circle, quarter-at-most, quarter-minute, quarter-zero, quarter-right}
+use Rattle.trig.proofs.Symmetry.{sine-first, cosine-first, sine-upper}
+pub use Rattle.trig.proofs.Symmetry.{sine-odd, sine-supplement, sine-half-turn, sine-full-turn, sine-quarter-turn, cosine-quarter-turn, cosine-even, cosine-complement}
 use Rattle.trig.proofs.Turns.{bounded}
 
 -- ---- range
@@ -34,7 +38,7 @@ cosine-size t = within-unit t .1
 
 close : (θ : ℕ) → θ < right-angle → natAbs (pos (first-quarter (suc θ)) -ℤ pos (first-quarter θ)) ≤ 5
 close θ h =
-    near (first-quarter (suc θ)) (first-quarter θ) (quarter-step θ h)
+    within (first-quarter (suc θ)) (first-quarter θ) (quarter-step θ h)
     (le-trans (quarter-mono {a = θ} {b = suc θ} (omega arith) h) (omega arith))
 
 steps-base : (θ : ℕ) → θ < right-angle → (natAbs (sine (pos θ +ℤ pos 1) -ℤ sine (pos θ)) ≤ 5) × (natAbs (cosine (pos θ +ℤ pos 1) -ℤ cosine (pos θ)) ≤ 5)
@@ -96,8 +100,65 @@ unfolding radius-gap
 radius-base θ h =
     let c = quarter-circle θ (omega arith) in
     rw (sine-first θ (omega arith), cosine-first θ (omega arith))
-    (near (first-quarter θ * first-quarter θ + first-quarter (right-angle - θ) * first-quarter (right-angle - θ)) (unit * unit) (c .not-outside) (c .not-inside))
+    (within (first-quarter θ * first-quarter θ + first-quarter (right-angle - θ) * first-quarter (right-angle - θ)) (unit * unit) (c .not-outside) (c .not-inside))
 
 pub near-circle : (t : ℤ) → natAbs (sine t *ℤ sine t +ℤ cosine t *ℤ cosine t -ℤ pos unit *ℤ pos unit) ≤ A * unit
 unfolding radius-gap
 near-circle t = bounded radius-gap radius-gap (A * unit) (λ θ h. (radius-base θ h, radius-base θ h)) radius-turn radius-turn t .0
+
+-- ---- values
+
+pub sine-zero : sine (pos 0) ≡ pos 0
+sine-zero = sine-first 0 (omega arith) ∙ ap pos quarter-zero
+
+pub sine-right : sine (pos right-angle) ≡ pos unit
+sine-right = sine-first right-angle (omega arith) ∙ ap pos quarter-right
+
+pub cosine-zero : cosine (pos 0) ≡ pos unit
+cosine-zero = cosine-first 0 (omega arith) ∙ ap pos quarter-right
+
+pub cosine-right : cosine (pos right-angle) ≡ pos 0
+cosine-right = cosine-first right-angle (omega arith) ∙ ap pos quarter-zero
+
+-- 59 minutes and 5°
+pub sine-59-minutes : pos 17_000_000 ≤ℤ sine (pos 3_540_000)
+sine-59-minutes = rw (sine-first 3_540_000 (omega arith), quarter-minute 59) (pos-≤ℤ entry-59)
+
+pub sine-5-degrees : pos 87_000_000 ≤ℤ sine (pos 18_000_000)
+sine-5-degrees = rw (sine-first 18_000_000 (omega arith), quarter-minute 300) (pos-≤ℤ entry-300)
+
+-- ---- signs
+
+pub sine-nonneg : (θ : ℕ) → θ ≤ half-turn → pos 0 ≤ℤ sine (pos θ)
+sine-nonneg θ h = rw (sine-upper θ h) (pos-≤ℤ (omega arith))
+
+pub cosine-nonneg : (t : ℤ) → natAbs t ≤ right-angle → pos 0 ≤ℤ cosine t
+cosine-nonneg (pos θ) h = rw (cosine-first θ h) (pos-≤ℤ (omega arith))
+cosine-nonneg (negsuc θ) h = rw (cosine-even (pos (suc θ)), cosine-first (suc θ) h) (pos-≤ℤ (omega arith))
+
+-- ---- never falling from 0 to 90°
+
+pub sine-mono : (a b : ℕ) → a ≤ b → b ≤ right-angle → sine (pos a) ≤ℤ sine (pos b)
+sine-mono a b h l = rw (sine-first a (le-trans h l), sine-first b l) (pos-≤ℤ (quarter-mono h l))
+
+pub cosine-anti : (a b : ℕ) → a ≤ b → b ≤ right-angle → cosine (pos b) ≤ℤ cosine (pos a)
+cosine-anti a b h l =
+    rw (cosine-first a (le-trans h l), cosine-first b l)
+    (pos-≤ℤ (quarter-mono {a = right-angle - b} {b = right-angle - a} (omega arith) (omega arith)))
+
+-- ---- the slope from below: from t to t + n the sine rises by nearly n·cosine(t + n) at least
+
+as-integers :
+    (n c s s′ : ℕ) →
+    6 * unit * s + 29 * (n * c) ≤ 6 * unit * s′ + n * 17_400_000 + 6 * unit →
+    (pos 29 *ℤ (pos n *ℤ (pos c -ℤ pos 600_000)) -ℤ pos (6 * unit)) ≤ℤ (pos (6 * unit) *ℤ (pos s′ -ℤ pos s))
+as-integers n c s s′ h =
+    le-by (pos n ∷ pos c ∷ pos s ∷ pos s′ ∷ []) (search quote depth 40 fits 20000) (omega arith)
+
+pub sine-slope :
+    (n t : ℕ) →
+    n + t ≤ right-angle →
+    (pos 29 *ℤ (pos n *ℤ (cosine (pos (n + t)) -ℤ pos 600_000)) -ℤ pos (6 * unit)) ≤ℤ (pos (6 * unit) *ℤ (sine (pos (n + t)) -ℤ sine (pos t)))
+sine-slope n t h =
+    rw (cosine-first (n + t) h, sine-first (n + t) h, sine-first t (omega arith))
+    (as-integers n (first-quarter (right-angle - (n + t))) (first-quarter t) (first-quarter (n + t)) (quarter-slope n t h))

@@ -124,7 +124,7 @@ quarter-step θ h =
 
 -- ---- the slope from below
 
-quarter-minute : (k : ℕ) → first-quarter (k * minute) ≡ entry k
+pub quarter-minute : (k : ℕ) → first-quarter (k * minute) ≡ entry k
 unfolding node
 quarter-minute k =
     let e : k * minute ≡ k * minute + 0 = omega arith in

@@ -165,10 +165,15 @@ cosine-complement t =
     let e : pos right-angle -ℤ (pos right-angle -ℤ t) ≡ t = ring (t ∷ []) (search quote depth 40 fits 20000) tt in
     ap sine e
 
+-- ---- from 0 to 180°
+
+pub sine-upper : (θ : ℕ) → θ ≤ half-turn → sine (pos θ) ≡ pos (first-half θ)
+sine-upper θ h = sine-pos θ ∙ wave-low θ h
+
 -- ---- from 0 to 90°
 
 pub sine-first : (θ : ℕ) → θ ≤ right-angle → sine (pos θ) ≡ pos (first-quarter θ)
-sine-first θ h = sine-pos θ ∙ wave-low θ (omega arith) ∙ ap pos (half-low h)
+sine-first θ h = sine-upper θ (omega arith) ∙ ap pos (half-low h)
 
 pub cosine-first : (θ : ℕ) → θ ≤ right-angle → cosine (pos θ) ≡ pos (first-quarter (right-angle - θ))
 unfolding cosine
