@@ -3,7 +3,7 @@
 use mathlib.Core.Path.{_≡_, refl, sym, ap, _∙_, subst}
 use mathlib.Core.Bool.{Bool, true, false, cond}
 use mathlib.Core.Logic.{_⊎_, inl, inr, ⊎-elim}
-use Prim.Native.Nat.{ℕ, zero, suc, _+_, _-_, _<_, _≤_, zero-le}
+use Prim.Native.Nat.{ℕ, zero, suc, _+_, _-_, _/_, _<_, _≤_, zero-le}
 use native.Mathlib.Nat.{le-refl, le-suc, le-trans, eq-or-lt-of-le, le-of-suc-le-suc}
 use native.Mathlib.Omega.{arith}
 use Rattle.integers.specs.Greatest.{greatest}
@@ -89,3 +89,22 @@ module _ (test : ℕ → Bool) where
     greatest-edge r h pass fail =
         let e : suc r - 1 ≡ r = omega arith in
         greatest-lower (suc r) (omega arith) h fail ∙ ap (greatest test) e ∙ greatest-here r pass
+
+  -- ---- a search that halves the span from low to high, where low passes
+
+  -- one number is left
+  pub one-left : (low high : ℕ) → low ≡ high → test low ≡ true → low ≡ greatest test high
+  one-left low high e pass = sym (ap (greatest test) (sym e) ∙ greatest-here low pass)
+
+  -- the middle fails: the greatest is in the lower half
+  pub lower-half :
+      (n : ℕ) →
+      Falls test n →
+      (low high : ℕ) →
+      high ≤ n →
+      low ≤ high →
+      (low ≡ high → ⊥) →
+      test (high - (high - low) / 2) ≡ false →
+      greatest test (high - (high - low) / 2 - 1) ≡ greatest test high
+  lower-half n falls low high h l differ fail =
+      sym (greatest-lower high (λ a b i j. falls a b i (le-trans j h)) (high - (high - low) / 2) (omega arith) (omega arith) fail)

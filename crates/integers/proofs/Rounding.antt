@@ -11,7 +11,7 @@ use lib.IntN.{ℤ, pos, negsuc, negℤ, natAbs, _+ℤ_, _-ℤ_, _*ℤ_, negℤ-n
 use lib.Signed.{_≤ℤ_}
 use Rattle.proof_kit.proofs.Laws.{natAbs-parts, parts--, one-part, P-neg, N-neg, negℤ-*ˡ, diff-zero}
 use Rattle.proof_kit.proofs.Ring.{ring, quote}
-use Rattle.proof_kit.proofs.Size.{abs-neg, abs-sub-sym, abs-via, abs-mul}
+use Rattle.proof_kit.proofs.Size.{abs-neg, abs-add, abs-sub, abs-sub-sym, abs-via, abs-mul}
 use Rattle.proof_kit.proofs.Order.{order}
 use Rattle.integers.specs.Near.{near, nearest, signed}
 
@@ -66,10 +66,12 @@ pub near-pos : (n d : ℕ) → near (pos n) d ≡ pos (nearest n d)
 unfolding near
 near-pos n d = ap (λ (b : Bool). signed b (nearest n d)) (leb·suc-zero n)
 
+pub near-zero : (d : ℕ) → 0 < d → near (pos 0) d ≡ pos 0
+near-zero d h = near-pos 0 d ∙ ap pos (nearest-zero d h)
+
 pub near-neg : (n d : ℕ) → 0 < d → near (negℤ (pos n)) d ≡ negℤ (pos (nearest n d))
 unfolding near
-near-neg zero d h =
-    near-pos 0 d ∙ ap pos (nearest-zero d h) ∙ ap (λ (q : ℕ). negℤ (pos q)) (sym (nearest-zero d h))
+near-neg zero d h = near-zero d h ∙ ap (λ (q : ℕ). negℤ (pos q)) (sym (nearest-zero d h))
 near-neg (suc n) d h = refl
 
 pub near-odd : (n : ℤ) (d : ℕ) → 0 < d → near (negℤ n) d ≡ negℤ (near n d)
@@ -135,3 +137,22 @@ near-only n q d h =
     no-size : (z : ℤ) → natAbs z ≡ 0 → z ≡ pos 0
     no-size (pos a) e = ap pos e
     no-size (negsuc a) e = let f : ⊥ = omega arith in absurd f
+
+-- a bound on n is rounded with it
+pub near-bound : (n : ℤ) (d : ℕ) {m : ℕ} → 0 < d → natAbs n ≤ m → natAbs (near n d) ≤ nearest m d
+near-bound n d h l = rw (near-size n d) (nearest-mono d h l)
+
+-- a bound on n as a multiple of d
+pub near-at-most : (n : ℤ) (d m : ℕ) → 0 < d → natAbs n ≤ m * d → natAbs (near n d) ≤ m
+near-at-most n d m h l = rw (nearest-whole m d h) at (near-bound n d h l)
+
+-- two rounded quotients differ by one more than the quotients, at most
+pub near-apart : (m n : ℤ) (d : ℕ) → 0 < d → natAbs (pos d *ℤ (near m d -ℤ near n d)) ≤ natAbs (m -ℤ n) + d
+near-apart m n d h =
+    let x : ℤ = near m d *ℤ pos d -ℤ m in
+    let y : ℤ = near n d *ℤ pos d -ℤ n in
+    rw (spread (near m d) (near n d) (pos d) m n)
+    (omega (arith, abs-add (x -ℤ y) (m -ℤ n), abs-sub x y, near-close m d h, near-close n d h))
+  where
+    spread : (q r d m n : ℤ) → d *ℤ (q -ℤ r) ≡ (q *ℤ d -ℤ m) -ℤ (r *ℤ d -ℤ n) +ℤ (m -ℤ n)
+    spread q r d m n = ring (q ∷ r ∷ d ∷ m ∷ n ∷ []) (search quote depth 40 fits 20000) tt

@@ -8,6 +8,7 @@ use native.Mathlib.Nat.{le-trans, le-of-lt, lt-of-lt-of-le, lt-of-le-of-lt, add-
 use native.Mathlib.Omega.{arith}
 use lib.Dec.{leb}
 use borrow.Author.Tests.{le-leb, lt-leb, leb-true, leb-false}
+use Rattle.proof_kit.proofs.Size.{square-lt}
 use Rattle.integers.specs.Greatest.{greatest}
 use Rattle.integers.specs.Root.{root}
 use Rattle.integers.proofs.Greatest.{greatest-is, greatest-passes, greatest-ge}
@@ -47,6 +48,17 @@ root-high n = at (le-or-lt ((root n + 1) * (root n + 1)) n)
     at : ((root n + 1) * (root n + 1) ≤ n) ⊎ (n < (root n + 1) * (root n + 1)) → n < (root n + 1) * (root n + 1)
     at (inl h) = absurd (not-above n (root n) h (greatest-ge (λ k. leb (k * k) n) n (root n + 1) (le-trans (self-le-square (root n + 1)) h) (le-leb ((root n + 1) * (root n + 1)) n h)))
     at (inr h) = h
+
+-- a number whose square is at most n, and one whose successor's is above it
+pub root-least : (n a : ℕ) → a * a ≤ n → a ≤ root n
+root-least n a h =
+    let l : a < root n + 1 = square-lt a (root n + 1) (lt-of-le-of-lt h (root-high n)) in
+    omega arith
+
+pub root-most : (n a : ℕ) → n < (a + 1) * (a + 1) → root n ≤ a
+root-most n a h =
+    let l : root n < a + 1 = square-lt (root n) (a + 1) (lt-of-le-of-lt (root-low n) h) in
+    omega arith
 
 -- ---- Newton's iteration
 

@@ -9,7 +9,7 @@ use native.Mathlib.Omega.{arith}
 use borrow.Author.Tests.{ltb-true}
 use lib.Dec.{T, leb, ltb, leb→le, ltb→lt}
 use lib.IntN.{ℤ, pos, negsuc, _+ℤ_, _-ℤ_, _*ℤ_, negℤ, natAbs, +ℤ-idl}
-use lib.Signed.{_≤ℤ_, _<ℤ_, leZ, ltZ, nonNeg, quotZ, remZ, yes-nonNeg, natAbs-le}
+use lib.Signed.{_≤ℤ_, _<ℤ_, leZ, ltZ, nonNeg, mag, quotZ, remZ, yes-nonNeg, natAbs-le}
 use mir.Syntax.{w64}
 use mir.Val.{Fits, SFits, toZ, ofZ}
 use mir.Facts.{and-yes, toZ-ofZ, toZ-pos}
@@ -107,9 +107,17 @@ at-most (back a) = at-most a
 at-most (cast m h) = h
 at-most (held {x} f) = natAbs-le x (f .sfits)
 
-small-fits : (z : ℤ) {n : ℕ} → natAbs z ≤ n → n < 2 ^ 63 → SFits w64 z
+-- a number of a small size fits
+pub small-fits : (z : ℤ) {n : ℕ} → natAbs z ≤ n → n < 2 ^ 63 → SFits w64 z
 small-fits (pos a) h k = record { sfits = lt-of-le-of-lt h k }
 small-fits (negsuc a) h k = record { sfits = omega arith }
+
+-- and is read back as it was: a parameter, or with `.ok` of a call its result
+pub kept : (z : ℤ) {n : ℕ} → natAbs z ≤ n → n < 2 ^ 63 → toZ w64 (ofZ w64 z) ≡ z
+kept z h k = toZ-ofZ (small-fits z h k)
+
+pub returned : {z : ℤ} → mag z < 2 ^ 63 → toZ w64 (ofZ w64 z) ≡ z
+returned h = toZ-ofZ {w = w64} (record { sfits = h })
 
 -- what is read back is the number as the source means it
 pub read : {z : ℤ} (o : Code z) → T (in-range o) → z ≡ value o
@@ -180,6 +188,14 @@ unfolding size
 read-size {z} {B} o t =
     let p = and-yes (in-range o) (leb (most o) B) t in
     rw (read o (p .0)) (le-trans (at-most o) (leb→le (most o) B (p .1)))
+
+-- what it requires of the size and something more: `rw as-size (read-room 500 (search code depth 40 fits 20000) tt)`
+pub read-room : (more : ℕ) {z : ℤ} {B : ℕ} (o : Code z) → T (in-range o && ltb (most o + more) B) → size z + more < B
+unfolding size
+read-room more {z} {B} o t =
+    let p = and-yes (in-range o) (ltb (most o + more) B) t in
+    let below : most o + more < B = ltb→lt (most o + more) B (p .1) in
+    rw (read o (p .0)) (omega (arith, at-most o))
 
 -- `z as u64`: `rw (as-sign, as-size) (unsigned (search code depth 40 fits 20000) tt h)`, where h says that the number is not negative
 pub unsigned : {z : ℤ} (o : Code z) → T (in-range o && ltb (most o) (2 ^ 64)) → pos 0 ≤ℤ value o → T (sign z) × Fits w64 (size z)

@@ -78,6 +78,28 @@ sine-change (suc n) t =
     rw more
     (omega (arith, abs-via (sine (t +ℤ pos n +ℤ pos 1)) (sine (t +ℤ pos n)) (sine t), sine-step (t +ℤ pos n), sine-change n t))
 
+-- between any two angles
+pub sine-apart : (x y : ℤ) → natAbs (sine x -ℤ sine y) ≤ 5 * natAbs (x -ℤ y)
+sine-apart x y = at (x -ℤ y) refl
+  where
+    back : (x y : ℤ) → x ≡ y +ℤ (x -ℤ y)
+    back x y = ring (x ∷ y ∷ []) (search quote depth 40 fits 20000) tt
+
+    forth : (x y : ℤ) → y ≡ x +ℤ negℤ (x -ℤ y)
+    forth x y = ring (x ∷ y ∷ []) (search quote depth 40 fits 20000) tt
+
+    at : (z : ℤ) → x -ℤ y ≡ z → natAbs (sine x -ℤ sine y) ≤ 5 * natAbs z
+    at (pos n) e = rw (back x y ∙ ap (λ (w : ℤ). y +ℤ w) e) (sine-change n y)
+    at (negsuc n) e =
+        rw (abs-sub-sym (sine x) (sine y), forth x y ∙ ap (λ (w : ℤ). x +ℤ negℤ w) e) (sine-change (suc n) x)
+
+pub cosine-apart : (x y : ℤ) → natAbs (cosine x -ℤ cosine y) ≤ 5 * natAbs (x -ℤ y)
+cosine-apart x y =
+    rw (shifted x y (pos right-angle), ← (sine-quarter-turn x), ← (sine-quarter-turn y)) (sine-apart (x +ℤ pos right-angle) (y +ℤ pos right-angle))
+  where
+    shifted : (x y r : ℤ) → x -ℤ y ≡ (x +ℤ r) -ℤ (y +ℤ r)
+    shifted x y r = ring (x ∷ y ∷ r ∷ []) (search quote depth 40 fits 20000) tt
+
 -- ---- sine² + cosine²
 
 -- A: sine² + cosine² differs from U² by at most A·U

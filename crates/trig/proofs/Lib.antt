@@ -1,5 +1,5 @@
 mod Quarter
 mod Symmetry
-mod Turns
+pub mod Turns
 pub mod Interface
 pub mod Angles

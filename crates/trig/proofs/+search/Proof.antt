@@ -1,13 +1,12 @@
 -- The proof of the cycle of calls {search}. The measure is the width of the span that is left.
 -- Where the middle passes, the greatest angle is the same; where it fails, all above it fail, and the greatest lies below.
 -- Assumes nothing.
-use mathlib.Core.Path.{_≡_, sym, ap, _∙_, subst}
-use mathlib.Core.Bool.{Bool, true, false}
-use Prim.Native.Nat.{ℕ, _-_, _/_, _≤_, _<_}
+use mathlib.Core.Path.{sym, _∙_}
+use Prim.Native.Nat.{ℕ, _-_, _<_}
 use native.Mathlib.Nat.{le-trans}
 use native.Mathlib.Omega.{arith}
-use Rattle.integers.specs.Greatest.{greatest}
-use Rattle.integers.proofs.Greatest.{greatest-here, greatest-lower}
+use Rattle.integers.proofs.Greatest.{one-left, lower-half}
+use Rattle.trig.specs.Sine.{right-angle}
 use Rattle.trig.specs.Angle.{under}
 use Rattle.trig.proofs.Angles.{under-falls}
 use borrow.Fn.Kinds.{In}
@@ -35,7 +34,7 @@ search-returns : (t : ℕ) → search-lts.Need-returns (
   search′.Post,
 ) (search-at t) search′.Post
 search-returns t c =
-    sym (ap (greatest (under (c .before .args .p) (c .before .args .q))) (sym (c .if1 .taken)) ∙ greatest-here (under (c .before .args .p) (c .before .args .q)) (c .before .args .low) (c .before .pre .1 .5))
+    one-left (under (c .before .args .p) (c .before .args .q)) (c .before .args .low) (c .before .args .high) (c .if1 .taken) (c .before .pre .1 .5)
 
 search-sub-mid : (t : ℕ) → search-lts.Need-sub-mid (
   is-under-reads.Asked,
@@ -116,12 +115,9 @@ search-returns-3 : (t : ℕ) → search-lts.Need-returns-3 (
 search-returns-3 t c =
     let start = c .before .before .before .before in
     let given = start .pre .1 in
-    let differ = c .before .before .before .if1 .left in
-    let mid : ℕ = start .args .high - (start .args .high - start .args .low) / 2 in
     c .search2 .ensures
-    ∙ sym (greatest-lower (under (start .args .p) (start .args .q)) (start .args .high)
-    (λ a b h l. under-falls (start .args .p) (start .args .q) a b h (le-trans l (given .4)))
-    mid (omega (arith, given .3, differ)) (omega arith) (sym (c .before .before .is-under .ensures) ∙ c .before .if2 .left))
+    ∙ lower-half (under (start .args .p) (start .args .q)) right-angle (under-falls (start .args .p) (start .args .q)) (start .args .low) (start .args .high) (given .4) (given .3) (c .before .before .before .if1 .left)
+    (sym (c .before .before .is-under .ensures) ∙ c .before .if2 .left)
 
 pub +search-spec : {M : Type 1} → statement M
 +search-spec = close μ-search λ t. search-lts.spec (

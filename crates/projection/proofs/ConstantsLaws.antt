@@ -1,0 +1,36 @@
+-- What the steps use of the constants of an accepted set: small coefficients, a sine and a cosine, and radii near the semi-major axis.
+-- Assumes nothing.
+use mathlib.Core.Path.{_≡_, sym, subst}
+use Prim.Native.Nat.{ℕ, _≤_}
+use lib.IntN.{ℤ, natAbs}
+use Rattle.trig.proofs.Interface.{sine-size, cosine-size}
+use Rattle.projection.specs.declared.parameters.Parameters.{Parameters}
+use Rattle.projection.specs.declared.constants.Constants.{Constants}
+use Rattle.projection.specs.ParameterSet.{setRefusal}
+use Rattle.projection.specs.Latitude.{Small}
+use Rattle.projection.specs.Derived.{β0, S0, C0, constantsOf}
+use Rattle.projection.specs.ForwardSteps.{Turned}
+use Rattle.projection.proofs.AcceptedSet.{Between, Accepted, accepted}
+use Rattle.projection.proofs.SeriesLaws.{series-small}
+use Rattle.projection.proofs.ScaleLaws.{e2-small, RD-between, RN-between}
+
+pub record Sound (k : Constants) : Type 0 where
+  pub small : Small (k .series)
+  pub turned : Turned k
+  pub rd-between : Between (k .rd) 90_909_091 1_080_000_000
+  pub rn-between : Between (k .rn) 90_909_091 1_080_000_000
+
+pub sound : (p : Parameters) → setRefusal p ≡ 0 → Sound (constantsOf p)
+unfolding constantsOf S0 C0
+sound p h =
+    let ok = accepted p h in
+    record {
+      small = series-small (p .e2) (e2-small p ok);
+      turned = record { s0-size = sine-size (β0 (p .e2) (p .lat0 .0)); c0-size = cosine-size (β0 (p .e2) (p .lat0 .0)) };
+      rd-between = RD-between p ok;
+      rn-between = RN-between p ok;
+    }
+
+-- the same of constants that were handed down
+pub sound-as : (p : Parameters) (k : Constants) → setRefusal p ≡ 0 → k ≡ constantsOf p → Sound k
+sound-as p k h e = subst Sound (sym e) (sound p h)

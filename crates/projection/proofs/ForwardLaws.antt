@@ -1,0 +1,121 @@
+-- Laws of the forward steps: how large each of them is.
+-- Assumes nothing.
+use mathlib.Core.Path.{_≡_, refl, sym, ap, _∙_}
+use Prim.Native.Nat.{ℕ, zero, suc, _+_, _*_, _<_, _≤_}
+use native.Mathlib.Nat.{le-refl}
+use native.Mathlib.Omega.{arith}
+use lib.Dec.{lit<, lit≤}
+use mathlib.Core.Bool.{true, false}
+use lib.IntN.{ℤ, pos, negℤ, natAbs, _+ℤ_, _-ℤ_, _*ℤ_}
+use lib.Signed.{_≤ℤ_}
+use Rattle.proof_kit.proofs.Size.{abs-mul, abs-mul-le, abs-add-le, abs-sub-le}
+use Rattle.proof_kit.proofs.Order.{order, pos-abs, pos-≤, ≤ℤ-trans}
+use Rattle.integers.specs.Near.{near}
+use Rattle.integers.specs.Root.{root}
+use Rattle.integers.proofs.Rounding.{near-at-most}
+use Rattle.integers.proofs.Squares.{root-least, root-most}
+use Rattle.sine_table.specs.Table.{unit}
+use Rattle.trig.specs.Sine.{right-angle, half-turn, sine, cosine}
+use Rattle.trig.proofs.Interface.{sine-size, cosine-size}
+use Rattle.projection.specs.declared.constants.Constants.{Constants}
+use Rattle.projection.specs.Latitude.{betaMas}
+use Rattle.projection.specs.Derived.{U, constantsOf}
+use Rattle.projection.specs.declared.latitude.Geodetic.{Geodetic}
+use Rattle.projection.specs.declared.parameters.Parameters.{Parameters}
+use Rattle.projection.specs.declared.forward.PlaneAnswer.{PlaneAnswer}
+use Rattle.projection.specs.declared.forward.PlaneAnswer.the-variants.{Plane, Refused}
+use Rattle.projection.specs.ParameterSet.{within, setRefusal}
+use Rattle.projection.proofs.AcceptedSet.{both, within-size}
+use Rattle.projection.specs.ForwardSteps.{Turned, H, b, c, u, v, w, G, dE, dN, nearness, near-enough, on-globe, forwardPoint, forwardOf}
+
+some : 0 < unit
+some = lit< tt
+
+-- a rounded product of two numbers of at most one unit, and a sum or difference of two such products
+pub product-size : (x y : ℤ) → natAbs x ≤ unit → natAbs y ≤ unit → natAbs (near (x *ℤ y) unit) ≤ unit
+product-size x y h l = near-at-most (x *ℤ y) unit unit some (abs-mul-le x y h l)
+
+pub sum-size : (x y z t : ℤ) → natAbs x ≤ unit → natAbs y ≤ unit → natAbs z ≤ unit → natAbs t ≤ unit → natAbs (near (x *ℤ y +ℤ z *ℤ t) unit) ≤ 2_000_000_000
+sum-size x y z t hx hy hz ht =
+    near-at-most (x *ℤ y +ℤ z *ℤ t) unit 2_000_000_000 some (abs-add-le (x *ℤ y) (z *ℤ t) (abs-mul-le x y hx hy) (abs-mul-le z t hz ht))
+
+pub difference-size : (x y z t : ℤ) → natAbs x ≤ unit → natAbs y ≤ unit → natAbs z ≤ unit → natAbs t ≤ unit → natAbs (near (x *ℤ y -ℤ z *ℤ t) unit) ≤ 2_000_000_000
+difference-size x y z t hx hy hz ht =
+    near-at-most (x *ℤ y -ℤ z *ℤ t) unit 2_000_000_000 some (abs-sub-le (x *ℤ y) (z *ℤ t) (abs-mul-le x y hx hy) (abs-mul-le z t hz ht))
+
+module _ (k : Constants) (φ Δ : ℤ) where
+  pub b-size : natAbs (b k φ Δ) ≤ unit
+  unfolding b
+  b-size = sine-size (betaMas (k .series) φ)
+
+  pub c-size : natAbs (c k φ Δ) ≤ unit
+  unfolding c
+  c-size = cosine-size (betaMas (k .series) φ)
+
+  pub u-size : natAbs (u k φ Δ) ≤ unit
+  unfolding u
+  u-size = product-size (c k φ Δ) (sine Δ) c-size (sine-size Δ)
+
+  pub v-size : natAbs (v k φ Δ) ≤ unit
+  unfolding v
+  v-size = product-size (c k φ Δ) (cosine Δ) c-size (cosine-size Δ)
+
+module _ (k : Constants) (turned : Turned k) (φ Δ : ℤ) where
+  pub w-size : natAbs (w k φ Δ) ≤ 2_000_000_000
+  unfolding w
+  w-size = difference-size (k .c0) (b k φ Δ) (k .s0) (v k φ Δ) (turned .c0-size) (b-size k φ Δ) (turned .s0-size) (v-size k φ Δ)
+
+  pub G-size : natAbs (G k φ Δ) ≤ 3_000_000_000
+  unfolding G
+  G-size =
+      abs-add-le U (near (k .s0 *ℤ b k φ Δ +ℤ k .c0 *ℤ v k φ Δ) unit) (le-refl unit)
+      (sum-size (k .s0) (b k φ Δ) (k .c0) (v k φ Δ) (turned .s0-size) (b-size k φ Δ) (turned .c0-size) (v-size k φ Δ))
+
+-- ---- H
+
+-- G at least 20,000,000 gives a divisor H of at least 100,000,000
+pub H-least : (g : ℤ) → pos 20_000_000 ≤ℤ g → 100_000_000 ≤ H g
+unfolding H
+H-least g h =
+    let natural : pos (natAbs g) ≡ g = pos-abs (≤ℤ-trans (omega order) h) in
+    let large : 20_000_000 ≤ natAbs g = pos-≤ (rw natural h) in
+    root-least (natAbs (g *ℤ pos 500_000_000)) 100_000_000 (rw (abs-mul g (pos 500_000_000)) (omega arith))
+
+pub H-most : (g : ℤ) → natAbs g ≤ 4_000_000_000 → H g ≤ 1_500_000_000
+unfolding H
+H-most g h = root-most (natAbs (g *ℤ pos 500_000_000)) 1_500_000_000 (rw (abs-mul g (pos 500_000_000)) (omega arith))
+
+-- ---- a position within ±90° and ±180°
+
+pub globe-sizes : (φ : Geodetic) (lon : ℤ) → on-globe φ lon ≡ true → (natAbs (φ .0) ≤ right-angle) × (natAbs lon ≤ half-turn)
+unfolding on-globe
+globe-sizes φ lon e =
+    let t = both (within (negℤ (pos right-angle)) (pos right-angle) (φ .0)) (within (negℤ (pos half-turn)) (pos half-turn) lon) e in
+    (within-size right-angle (φ .0) (t .0), within-size half-turn lon (t .1))
+
+-- ---- the answer, by the tests that decide it
+
+module _ (p : Parameters) (φ : Geodetic) (lon : ℤ) where
+  pub forward-off-globe : on-globe φ lon ≡ false → forwardPoint p φ lon ≡ Refused 3
+  unfolding forwardPoint
+  forward-off-globe e = rw e
+
+  pub forward-too-far : on-globe φ lon ≡ true → near-enough (nearness p φ lon) ≡ false → forwardPoint p φ lon ≡ Refused 4
+  unfolding forwardPoint
+  forward-too-far e f = rw (e, f)
+
+  pub forward-plane :
+      on-globe φ lon ≡ true →
+      near-enough (nearness p φ lon) ≡ true →
+      forwardPoint p φ lon ≡ Plane (p .«false_easting» +ℤ dE (constantsOf p) (φ .0) (lon -ℤ p .lon0)) (p .«false_northing» +ℤ dN (constantsOf p) (φ .0) (lon -ℤ p .lon0))
+  unfolding forwardPoint
+  forward-plane e f = rw (e, f)
+
+  pub forward-of-accepted : setRefusal p ≡ 0 → forwardOf p φ lon ≡ forwardPoint p φ lon
+  unfolding forwardOf
+  forward-of-accepted e = rw e
+
+  pub forward-of-refused : (n : ℕ) → (n ≡ 0 → ⊥) → setRefusal p ≡ n → forwardOf p φ lon ≡ Refused n
+  unfolding forwardOf
+  forward-of-refused zero some-number e = absurd (some-number refl)
+  forward-of-refused (suc n) some-number e = rw e

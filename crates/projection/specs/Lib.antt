@@ -1,0 +1,5 @@
+pub mod ParameterSet
+pub mod Latitude
+pub mod Derived
+pub mod ForwardSteps
+pub mod InverseSteps
