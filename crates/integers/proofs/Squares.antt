@@ -8,17 +8,11 @@ use native.Mathlib.Nat.{le-trans, le-of-lt, lt-of-lt-of-le, lt-of-le-of-lt, add-
 use native.Mathlib.Omega.{arith}
 use lib.Dec.{leb}
 use borrow.Author.Tests.{le-leb, lt-leb, leb-true, leb-false}
+use Rattle.proof_kit.proofs.Order.{le-or-lt}
 use Rattle.proof_kit.proofs.Size.{square-lt}
 use Rattle.integers.specs.Greatest.{greatest}
 use Rattle.integers.specs.Root.{root}
 use Rattle.integers.proofs.Greatest.{greatest-is, greatest-passes, greatest-ge}
-
-le-or-lt : (a b : ℕ) → (a ≤ b) ⊎ (b < a)
-le-or-lt a b = at (leb a b) refl
-  where
-    at : (t : Bool) → leb a b ≡ t → (a ≤ b) ⊎ (b < a)
-    at true e = inl (leb-true a b e)
-    at false e = inr (leb-false a b e)
 
 pub square-mono : {a b : ℕ} → a ≤ b → a * a ≤ b * b
 square-mono h = mul-le-mul h h

@@ -8,12 +8,23 @@ use Prim.Native.Nat.{ℕ, suc, _+_, _*_, _≤_, _<_}
 use native.Mathlib.Decide.{decLe}
 use native.Mathlib.Nat.{mul-le-mul-right}
 use native.Mathlib.Omega.{arith}
-use lib.Dec.{T, leb→le, le→leb, ltb→lt, lt→ltb}
+use lib.Dec.{T, leb, leb→le, le→leb, ltb→lt, lt→ltb}
+use borrow.Author.Tests.{leb-true, leb-false}
 use lib.IntN.{ℤ, pos, negsuc, _+ℤ_, _-ℤ_, _*ℤ_, negℤ, natAbs}
 use lib.Signed.{_≤ℤ_, _<ℤ_, leZ, ltZ, leZ-yes, ltZ-yes, yes-nonNeg, pos-natAbs}
 use Rattle.proof_kit.proofs.Laws.{P, N, by-parts, one-part, natAbs-parts, parts-+, parts--, P-neg, N-neg, P-*, N-*}
 use Rattle.proof_kit.proofs.Ring.{Term, plus, times, neg, var, num, num⁻}
 use Rattle.proof_kit.proofs.Size.{square-abs, square-le}
+
+-- ---- the order of ℕ
+
+-- not above, or above: the two cases of a test
+pub le-or-lt : (a b : ℕ) → (a ≤ b) ⊎ (b < a)
+le-or-lt a b = at (leb a b) refl
+  where
+    at : (t : Bool) → leb a b ≡ t → (a ≤ b) ⊎ (b < a)
+    at true e = inl (leb-true a b e)
+    at false e = inr (leb-false a b e)
 
 -- ---- the order by parts
 

@@ -11,6 +11,7 @@ use lib.Dec.{leb, lit<}
 use lib.IntN.{ℤ, pos, negsuc, negℤ, _+ℤ_, _-ℤ_, negℤ-negℤ}
 use borrow.Author.Tests.{le-leb, lt-leb, leb-true, leb-false}
 use Rattle.proof_kit.proofs.Laws.{by-parts, parts--}
+use Rattle.proof_kit.proofs.Order.{le-or-lt}
 use Rattle.proof_kit.proofs.Ring.{ring, quote}
 use Rattle.sine_table.specs.Table.{unit}
 use Rattle.trig.specs.Sine.{right-angle, half-turn, full-turn, first-quarter, first-half, one-turn, sine, cosine}
@@ -31,14 +32,6 @@ turn-low {θ} h = ap (λ (b : Bool). cond b (pos (first-half θ)) (negℤ (pos (
 pub turn-high : {θ : ℕ} → half-turn < θ → one-turn θ ≡ negℤ (pos (first-half (full-turn - θ)))
 unfolding one-turn
 turn-high {θ} h = ap (λ (b : Bool). cond b (pos (first-half θ)) (negℤ (pos (first-half (full-turn - θ))))) (lt-leb θ half-turn h)
-
--- below or above: the two cases of each fold
-le-or-lt : (a b : ℕ) → (a ≤ b) ⊎ (b < a)
-le-or-lt a b = at (leb a b) refl
-  where
-    at : (t : Bool) → leb a b ≡ t → (a ≤ b) ⊎ (b < a)
-    at true e = inl (leb-true a b e)
-    at false e = inr (leb-false a b e)
 
 pub half-at-most : (θ : ℕ) → θ ≤ half-turn → first-half θ ≤ unit
 half-at-most θ h = at (le-or-lt θ right-angle)

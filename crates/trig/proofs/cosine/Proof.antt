@@ -8,18 +8,14 @@ use lib.Signed.{mag}
 use mir.Syntax.{w64}
 use mir.Val.{toZ, ofZ, SFits}
 use mir.Facts.{toZ-ofZ}
+use Rattle.proof_kit.proofs.Range.{small-fits}
 use Rattle.proof_kit.proofs.Size.{abs-sub}
 use Rattle.trig.specs.Sine.{right-angle, sine, cosine}
 use Rattle.trig.proofs.cosine.Statement.{statement}
 use Rattle.trig.proofs.cosine.Tie as tie
 
--- a number of this size is an i64
-small-fits : (z : ℤ) → natAbs z < 2 ^ 63 → SFits w64 z
-small-fits (pos n) h = record { sfits = h }
-small-fits (negsuc n) h = record { sfits = omega arith }
-
 complement-fits : (z : ℤ) → natAbs z < 2 ^ 62 → SFits w64 (pos right-angle -ℤ z)
-complement-fits z h = small-fits (pos right-angle -ℤ z) (omega (arith, abs-sub (pos right-angle) z))
+complement-fits z h = small-fits (pos right-angle -ℤ z) (abs-sub (pos right-angle) z) (omega arith)
 
 sub-sine : tie.Need-sub-sine
 sub-sine c = rw (toZ-ofZ (c .fits .theta)) (complement-fits (c .args .theta) (c .pre .1))
