@@ -3,3 +3,4 @@ pub mod Latitude
 pub mod Derived
 pub mod ForwardSteps
 pub mod InverseSteps
+pub mod Answers

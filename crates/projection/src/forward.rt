@@ -23,6 +23,7 @@ ghost use Rattle.projection.specs.ParameterSet.{setRefusal};
 ghost use Rattle.projection.specs.Latitude.{Small};
 ghost use Rattle.projection.specs.Derived.{constantsOf};
 ghost use Rattle.projection.specs.ForwardSteps.{H as scaleOf, Turned, directionOf, on-globe, forwardPoint, forwardOf};
+ghost use Rattle.projection.specs.Answers.{plane-told, forwardTold};
 
 // Easting and northing in cm, or the refusal number alone.
 pub enum PlaneAnswer {
@@ -107,7 +108,7 @@ pub fn forward_point(
 
 // Any set, any position: the customer's call.
 pub fn forward(p: Parameters, lat: Geodetic, lon: i64) -> PlaneAnswer
-    ensures { λ r. ⌜ r ≡ forwardOf p lat lon ⌝ }
+    ensures { λ r. ⌜ (r ≡ forwardOf p lat lon) × (plane-told r ≡ forwardTold p lat lon) ⌝ }
 {
     let refusal = p.refusal();
     if refusal != 0 {

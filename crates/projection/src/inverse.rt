@@ -28,6 +28,7 @@ ghost use Rattle.projection.specs.Latitude.{Small};
 ghost use Rattle.projection.specs.Derived.{constantsOf};
 ghost use Rattle.projection.specs.ForwardSteps.{Turned};
 ghost use Rattle.projection.specs.InverseSteps.{dropOf, pointOf, Sized, latitudeOf, longitudeOf, wrapped, positionOf, at-origin, on-map, on-plane, unprojected, inversePoint, inverseOf};
+ghost use Rattle.projection.specs.Answers.{geodetic-told, inverseTold};
 
 // Latitude and longitude in mas, or the refusal number alone.
 pub enum GeodeticAnswer {
@@ -200,7 +201,7 @@ pub fn inverse_point(
 
 // Any set, any position: the customer's call.
 pub fn inverse(p: Parameters, easting: i64, northing: i64) -> GeodeticAnswer
-    ensures { λ r. ⌜ r ≡ inverseOf p easting northing ⌝ }
+    ensures { λ r. ⌜ (r ≡ inverseOf p easting northing) × (geodetic-told r ≡ inverseTold p easting northing) ⌝ }
 {
     let refusal = p.refusal();
     if refusal != 0 {

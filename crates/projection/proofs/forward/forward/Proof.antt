@@ -2,10 +2,20 @@
 use borrow.Author.Needs.{needs}
 use mathlib.Core.Path.{_≡_, sym, ap, _∙_}
 use mir.Facts.{toZ-ofZ}
-use Rattle.projection.specs.ForwardSteps.{forwardPoint}
+use lib.IntN.{ℤ}
+use Rattle.projection.specs.declared.latitude.Geodetic.{Geodetic}
+use Rattle.projection.specs.declared.parameters.Parameters.{Parameters}
+use Rattle.projection.specs.declared.forward.PlaneAnswer.{PlaneAnswer}
+use Rattle.projection.specs.ForwardSteps.{forwardPoint, forwardOf}
+use Rattle.projection.specs.Answers.{plane-told, forwardTold}
+use Rattle.projection.proofs.AnswerLaws.{forward-tells}
 use Rattle.projection.proofs.ForwardLaws.{forward-of-accepted, forward-of-refused}
 use Rattle.projection.proofs.forward.forward.Statement.{statement}
 use Rattle.projection.proofs.forward.forward.Tie as tie
+
+-- the answer, and what it tells
+and-told : {r : PlaneAnswer} (p : Parameters) (lat : Geodetic) (lon : ℤ) → r ≡ forwardOf p lat lon → (r ≡ forwardOf p lat lon) × (plane-told r ≡ forwardTold p lat lon)
+and-told p lat lon e = (e, ap plane-told e ∙ forward-tells p lat lon)
 
 refusal-requires : tie.Need-refusal-requires
 refusal-requires c κs = search needs
@@ -13,7 +23,8 @@ refusal-requires c κs = search needs
 returns : tie.Need-returns
 returns c =
     let start = c .before .before in
-    sym (forward-of-refused (start .args .p) (start .args .lat) (start .args .lon) (c .before .refusal .result) (c .if1 .taken) (sym (c .before .refusal .ensures)))
+    and-told (start .args .p) (start .args .lat) (start .args .lon)
+    (sym (forward-of-refused (start .args .p) (start .args .lat) (start .args .lon) (c .before .refusal .result) (c .if1 .taken) (sym (c .before .refusal .ensures))))
 
 table-requires : tie.Need-table-requires
 table-requires c κs = search needs
@@ -28,9 +39,10 @@ returns-2 : tie.Need-returns-2
 returns-2 c =
     let start = c .before .before .before .before .before .before .before in
     let refusal = c .before .before .before .before .before .before in
-    c .forward-point .ensures
+    and-told (start .args .p) (start .args .lat) (start .args .lon)
+    (c .forward-point .ensures
     ∙ ap (forwardPoint (start .args .p) (start .args .lat)) (toZ-ofZ (start .fits .lon))
-    ∙ sym (forward-of-accepted (start .args .p) (start .args .lat) (start .args .lon) (sym (refusal .refusal .ensures) ∙ c .before .before .before .before .before .if1 .left))
+    ∙ sym (forward-of-accepted (start .args .p) (start .args .lat) (start .args .lon) (sym (refusal .refusal .ensures) ∙ c .before .before .before .before .before .if1 .left)))
 
 pub forward-spec : {M : Type 1} → statement M
 forward-spec =

@@ -1,11 +1,20 @@
 -- `inverse::inverse` meets its contract. Assumes nothing.
 use borrow.Author.Needs.{needs}
-use mathlib.Core.Path.{_≡_, sym, ap₂, _∙_}
+use mathlib.Core.Path.{_≡_, sym, ap, ap₂, _∙_}
 use mir.Facts.{toZ-ofZ}
-use Rattle.projection.specs.InverseSteps.{inversePoint}
+use lib.IntN.{ℤ}
+use Rattle.projection.specs.declared.parameters.Parameters.{Parameters}
+use Rattle.projection.specs.declared.inverse.GeodeticAnswer.{GeodeticAnswer}
+use Rattle.projection.specs.InverseSteps.{inversePoint, inverseOf}
+use Rattle.projection.specs.Answers.{geodetic-told, inverseTold}
+use Rattle.projection.proofs.AnswerLaws.{inverse-tells}
 use Rattle.projection.proofs.InverseLaws.{inverse-of-accepted, inverse-of-refused}
 use Rattle.projection.proofs.inverse.inverse.Statement.{statement}
 use Rattle.projection.proofs.inverse.inverse.Tie as tie
+
+-- the answer, and what it tells
+and-told : {r : GeodeticAnswer} (p : Parameters) (E N : ℤ) → r ≡ inverseOf p E N → (r ≡ inverseOf p E N) × (geodetic-told r ≡ inverseTold p E N)
+and-told p E N e = (e, ap geodetic-told e ∙ inverse-tells p E N)
 
 refusal-requires : tie.Need-refusal-requires
 refusal-requires c κs = search needs
@@ -13,7 +22,8 @@ refusal-requires c κs = search needs
 returns : tie.Need-returns
 returns c =
     let start = c .before .before in
-    sym (inverse-of-refused (start .args .p) (start .args .easting) (start .args .northing) (c .before .refusal .result) (c .if1 .taken) (sym (c .before .refusal .ensures)))
+    and-told (start .args .p) (start .args .easting) (start .args .northing)
+    (sym (inverse-of-refused (start .args .p) (start .args .easting) (start .args .northing) (c .before .refusal .result) (c .if1 .taken) (sym (c .before .refusal .ensures))))
 
 table-requires : tie.Need-table-requires
 table-requires c κs = search needs
@@ -28,9 +38,10 @@ returns-2 : tie.Need-returns-2
 returns-2 c =
     let start = c .before .before .before .before .before .before .before in
     let refusal = c .before .before .before .before .before .before in
-    c .inverse-point .ensures
+    and-told (start .args .p) (start .args .easting) (start .args .northing)
+    (c .inverse-point .ensures
     ∙ ap₂ (inversePoint (start .args .p)) (toZ-ofZ (start .fits .easting)) (toZ-ofZ (start .fits .northing))
-    ∙ sym (inverse-of-accepted (start .args .p) (start .args .easting) (start .args .northing) (sym (refusal .refusal .ensures) ∙ c .before .before .before .before .before .if1 .left))
+    ∙ sym (inverse-of-accepted (start .args .p) (start .args .easting) (start .args .northing) (sym (refusal .refusal .ensures) ∙ c .before .before .before .before .before .if1 .left)))
 
 pub inverse-spec : {M : Type 1} → statement M
 inverse-spec =
