@@ -1,0 +1,190 @@
+-- Demand 3: the round trip of every position at most 89° from the Equator whose nearness is at least U, with every accepted set.
+-- The forward answer gives the shifts, the vectors' half of the proof shows that the inverse accepts them, and the angles' half bounds its answer. Assumes nothing.
+use mathlib.Core.Path.{_≡_, refl, sym, ap, ap₂, _∙_, subst}
+use mathlib.Core.Bool.{Bool, true, false, _&&_}
+use mathlib.Core.List.{[], _∷_}
+use Prim.Native.Nat.{ℕ, suc, _+_, _*_, _<_, _≤_}
+use native.Mathlib.Nat.{le-trans, le-of-mul-le-mul-left, mul-le-mul-left}
+use native.Mathlib.Omega.{arith}
+use lib.Dec.{lit<, lit≤}
+use lib.IntN.{ℤ, pos, negsuc, negℤ, natAbs, _+ℤ_, _-ℤ_, _*ℤ_}
+use lib.Signed.{_≤ℤ_}
+use Rattle.proof_kit.proofs.Laws.{P-neg, N-neg}
+use Rattle.proof_kit.proofs.Order.{order, pos-≤, pos-≤ℤ, ≤ℤ-trans, le-leZ}
+use Rattle.proof_kit.proofs.Ring.{ring, quote}
+use Rattle.projection.specs.declared.constants.Constants.{Constants}
+use Rattle.projection.specs.declared.latitude.Geodetic.{Geodetic}
+use Rattle.projection.specs.declared.parameters.Parameters.{Parameters}
+use Rattle.projection.specs.declared.forward.PlaneAnswer.{PlaneAnswer}
+use Rattle.projection.specs.declared.forward.PlaneAnswer.the-variants.{Plane, Refused}
+use Rattle.projection.specs.declared.inverse.GeodeticAnswer.{GeodeticAnswer}
+use Rattle.projection.specs.ParameterSet.{within, setRefusal}
+use Rattle.projection.specs.Derived.{β0, S0, C0, constantsOf}
+use Rattle.projection.specs.ForwardSteps.{c, dE, dN, nearness, near-enough, on-globe, forwardPoint, forwardOf}
+use Rattle.projection.specs.InverseSteps.{G as G′, K, on-map, unprojected, inverseOf}
+use Rattle.projection.proofs.AcceptedSet.{Between, accepted, lat0-size}
+use Rattle.projection.proofs.ConstantsLaws.{sound}
+use Rattle.projection.proofs.ForwardLaws.{forward-off-globe, forward-plane, forward-of-accepted}
+use Rattle.projection.proofs.InverseLaws.{inverse-on-plane, inverse-of-accepted}
+use Rattle.round_trip.specs.RoundTrip.{farthest-latitude, latitude-bound as latitude-limit, gap-bound, sharp-latitude-bound, sharp-gap-halves, longitudeGap, CloseTo, RoundTripAt, SharpRoundTrip, Demand3}
+use Rattle.round_trip.proofs.Numerals.{unit}
+use Rattle.round_trip.proofs.Limits.{circle-of, within-limits, forward-on-plane}
+use Rattle.round_trip.proofs.Steps.{Given, close-steps}
+use Rattle.round_trip.proofs.Answer.{Centred, Answer, answer}
+use Rattle.round_trip.proofs.Angles.{latitude-bound, longitude-bound}
+
+-- ---- the forward answer
+
+-- an accepted answer's easting and northing
+eastingOf : PlaneAnswer → ℤ
+eastingOf (Plane E N) = E
+eastingOf (Refused n) = pos 0
+
+northingOf : PlaneAnswer → ℤ
+northingOf (Plane E N) = N
+northingOf (Refused n) = pos 0
+
+-- 0 of an accepted answer, 1 of a refusal
+numberOf : PlaneAnswer → ℕ
+numberOf (Plane E N) = 0
+numberOf (Refused n) = 1
+
+-- a refusal is not an accepted answer
+not-refused : (n : ℕ) (E N : ℤ) → _≡_ {A = PlaneAnswer} (Refused n) (Plane E N) → ⊥
+unfolding numberOf
+not-refused n E N e = let z : _≡_ {A = ℕ} 1 0 = ap numberOf e in omega arith
+
+-- equal answers have equal eastings and northings
+same-plane : (E N E′ N′ : ℤ) → _≡_ {A = PlaneAnswer} (Plane E N) (Plane E′ N′) → (E ≡ E′) × (N ≡ N′)
+unfolding eastingOf northingOf
+same-plane E N E′ N′ e = (ap eastingOf e, ap northingOf e)
+
+module _ (p : Parameters) (φ : Geodetic) (lon : ℤ) where
+  abbrev k : Constants
+  k = constantsOf p
+
+  abbrev Δ : ℤ
+  Δ = lon -ℤ p .lon0
+
+  abbrev eastward : ℤ
+  eastward = dE k (φ .0) Δ
+
+  abbrev northward : ℤ
+  northward = dN k (φ .0) Δ
+
+  -- it is the false origin and the shifts
+  forward-is : (E N : ℤ) → setRefusal p ≡ 0 → near-enough (nearness p φ lon) ≡ true → forwardOf p φ lon ≡ Plane E N →
+      (p .«false_easting» +ℤ eastward ≡ E) × (p .«false_northing» +ℤ northward ≡ N)
+  forward-is E N ok near e = at (on-globe φ lon) refl
+    where
+      point : forwardPoint p φ lon ≡ Plane E N
+      point = sym (forward-of-accepted p φ lon ok) ∙ e
+
+      at : (t : Bool) → on-globe φ lon ≡ t → (p .«false_easting» +ℤ eastward ≡ E) × (p .«false_northing» +ℤ northward ≡ N)
+      at true on = same-plane (p .«false_easting» +ℤ eastward) (p .«false_northing» +ℤ northward) E N (sym (forward-plane p φ lon on near) ∙ point)
+      at false off = absurd (not-refused 3 E N (sym (forward-off-globe p φ lon off) ∙ point))
+
+  -- ---- what is given of the set and the position
+
+  -- S0 and C0 are those of φ0
+  centred : setRefusal p ≡ 0 → Centred p k
+  unfolding constantsOf S0 C0 β0
+  centred ok = record { s0-is = refl; c0-is = refl; lat0-most = lat0-size (p .lat0 .0) (accepted p ok .lat0-accepted) }
+
+  -- what the steps ask
+  given : setRefusal p ≡ 0 → natAbs (φ .0) ≤ farthest-latitude → pos unit ≤ℤ nearness p φ lon → Given k (φ .0) Δ
+  unfolding nearness
+  given ok latitude near = record { sound = sound p ok; centre = circle-of p; latitude = latitude; near-centre = near }
+
+  -- ---- the inverse accepts
+
+  -- a shift of at most twice the radius is on the map
+  on-axis : (r d : ℤ) → Between r 90_909_091 1_080_000_000 → natAbs d ≤ 2 * natAbs r → within (negℤ (pos 2 *ℤ r)) (pos 2 *ℤ r) d ≡ true
+  on-axis r d between h =
+      subst (λ (x : ℤ). within (negℤ (pos 2 *ℤ x)) (pos 2 *ℤ x) d ≡ true) (between .natural) (within-limits (2 * natAbs r) d h)
+
+  -- both shifts are
+  shifts-on-map : Given k (φ .0) Δ → on-map k eastward northward ≡ true
+  unfolding on-map
+  shifts-on-map g =
+      let near = close-steps g in
+      ap₂ _&&_ (on-axis (k .rd) eastward (g .sound .rd-between) (near .dE-size)) (on-axis (k .rn) northward (g .sound .rn-between) (near .dN-size))
+
+  -- and near enough
+  shifts-near : Given k (φ .0) Δ → near-enough (G′ (K k eastward northward)) ≡ true
+  unfolding near-enough G′
+  shifts-near g = le-leZ (close-steps g .G-least)
+
+  -- the answer, less the false origin, is the shift
+  less-origin : (f d z : ℤ) → f +ℤ d ≡ z → z -ℤ f ≡ d
+  less-origin f d z e = ap (λ (x : ℤ). x -ℤ f) (sym e) ∙ ring (f ∷ d ∷ []) (search quote depth 40 fits 20000) tt
+
+  -- so it takes the steps from the shifts
+  inverse-is : (E N : ℤ) → setRefusal p ≡ 0 → near-enough (nearness p φ lon) ≡ true → forwardOf p φ lon ≡ Plane E N →
+      inverseOf p E N ≡ unprojected p k eastward northward
+  inverse-is E N ok near e =
+      let there = forward-is E N ok near e in
+      inverse-of-accepted p E N ok
+      ∙ inverse-on-plane p E N (forward-on-plane p φ lon E N e)
+      ∙ ap₂ (unprojected p k) (less-origin (p .«false_easting») eastward E (there .0)) (less-origin (p .«false_northing») northward N (there .1))
+
+  -- ---- the round trip
+
+  -- an answer for the shifts is close to the position
+  close-answer : (g : Given k (φ .0) Δ) → Answer p k eastward northward → (result : GeodeticAnswer) → result ≡ unprojected p k eastward northward → CloseTo sharp-latitude-bound sharp-gap-halves 2 p φ lon result
+  unfolding longitudeGap constantsOf c
+  close-answer g a result e =
+      record {
+        φ′ = a .φ′;
+        lon′ = a .lon′;
+        accepted = e ∙ a .answered;
+        latitude-close = latitude-bound lon g a;
+        longitude-close = longitude-bound lon g a;
+      }
+
+  -- a nearness of U is enough for the forward steps
+  enough : pos unit ≤ℤ nearness p φ lon → near-enough (nearness p φ lon) ≡ true
+  unfolding near-enough
+  enough near =
+      let far : pos 20_000_000 ≤ℤ nearness p φ lon = ≤ℤ-trans (omega order) near in
+      le-leZ far
+
+  -- the bounds that the proof gives
+  round-trip : RoundTripAt sharp-latitude-bound sharp-gap-halves 2 p φ lon
+  unfolding RoundTripAt
+  round-trip E N ok latitude e near =
+      let g = given ok latitude near in
+      let a = answer p k (sound p ok) (centred ok) eastward northward (shifts-on-map g) (shifts-near g) in
+      close-answer g a (inverseOf p E N) (inverse-is E N ok (enough near) e)
+
+-- at most 98 mas, and 53.5
+pub sharp : SharpRoundTrip
+sharp p φ lon = round-trip p φ lon
+
+-- ---- weaker bounds
+
+-- bounds that are not less: l for the latitude, n / d for the longitude gap
+module _ (l n d l′ n′ d′ : ℕ) (more : l ≤ l′) (some : 0 < d) (ratio : d′ * n ≤ d * n′) where
+  -- x is at most n / d, so at most n′ / d′
+  weaker-ratio : (x : ℤ) → (pos d *ℤ x) ≤ℤ pos (n * unit) → (pos d′ *ℤ x) ≤ℤ pos (n′ * unit)
+  weaker-ratio (pos m) h =
+      let times : d * (d′ * m) ≤ d * (n′ * unit) = omega (arith, mul-le-mul-left d′ (pos-≤ h)) in
+      pos-≤ℤ (le-of-mul-le-mul-left times some)
+  weaker-ratio (negsuc m) h = omega (order, P-neg (pos (d′ * suc m)), N-neg (pos (d′ * suc m)))
+
+  -- a round trip within the first bounds is one within the second
+  weaker : (p : Parameters) (φ : Geodetic) (lon : ℤ) → RoundTripAt l n d p φ lon → RoundTripAt l′ n′ d′ p φ lon
+  unfolding RoundTripAt
+  weaker p φ lon trip E N ok latitude e near =
+      let close = trip E N ok latitude e near in
+      record {
+        φ′ = close .φ′;
+        lon′ = close .lon′;
+        accepted = close .accepted;
+        latitude-close = le-trans (close .latitude-close) more;
+        longitude-close = weaker-ratio (longitudeGap p φ lon (close .lon′)) (close .longitude-close);
+      }
+
+-- at most 200 mas, both times
+pub demand-3 : Demand3
+demand-3 p φ lon = weaker sharp-latitude-bound sharp-gap-halves 2 latitude-limit gap-bound 1 (lit≤ tt) (lit< tt) (lit≤ tt) p φ lon (sharp p φ lon)

@@ -1,0 +1,78 @@
+-- Demand 3: the round trip, in whole units, over the definitions that the contracts of `forward` and `inverse` cite.
+use Prim.Native.Nat.{ℕ, _-_, _*_, _%_, _≤_, min}
+use mathlib.Core.Path.{_≡_}
+use lib.IntN.{ℤ, pos, natAbs, _-ℤ_, _*ℤ_}
+use lib.Signed.{_≤ℤ_}
+use Rattle.sine_table.specs.Table.{unit}
+use Rattle.trig.specs.Sine.{full-turn, cosine}
+use Rattle.projection.specs.declared.latitude.Geodetic.{Geodetic}
+use Rattle.projection.specs.declared.parameters.Parameters.{Parameters}
+use Rattle.projection.specs.declared.forward.PlaneAnswer.{PlaneAnswer}
+use Rattle.projection.specs.declared.forward.PlaneAnswer.the-variants.{Plane, Refused}
+use Rattle.projection.specs.declared.inverse.GeodeticAnswer.{GeodeticAnswer}
+use Rattle.projection.specs.declared.inverse.GeodeticAnswer.the-variants.{Position, Refused as NotFound}
+use Rattle.projection.specs.ParameterSet.{setRefusal}
+use Rattle.projection.specs.Latitude.{betaMas}
+use Rattle.projection.specs.Derived.{seriesOf}
+use Rattle.projection.specs.ForwardSteps.{nearness, forwardOf}
+use Rattle.projection.specs.InverseSteps.{inverseOf}
+
+-- The numbers of demand 3: at most 89 degrees from the Equator, in mas; the nearness G; the two bounds, in mas.
+abbrev pub farthest-latitude : ℕ
+farthest-latitude = 320_400_000
+
+abbrev pub least-nearness : ℕ
+least-nearness = 1_000_000_000
+
+abbrev pub latitude-bound : ℕ
+latitude-bound = 200
+
+abbrev pub gap-bound : ℕ
+gap-bound = 200
+
+-- The bounds that the proof gives: 98 mas, and 53.5, in halves.
+abbrev pub sharp-latitude-bound : ℕ
+sharp-latitude-bound = 98
+
+abbrev pub sharp-gap-halves : ℕ
+sharp-gap-halves = 107
+
+-- "the smallest size, in mas, that their difference plus a whole number of times 360° can have"
+unfoldable pub turnGap : ℤ → ℕ
+turnGap d = min (natAbs d % full-turn) (full-turn - natAbs d % full-turn)
+
+-- The longitude gap (a term of document 01) at a geodetic latitude, times U: "times cosine(β)/U, with the set's β of φ .. The product is not rounded."
+unfoldable pub longitudeGap : Parameters → Geodetic → ℤ → ℤ → ℤ
+longitudeGap p φ lon lon′ = pos (turnGap (lon′ -ℤ lon)) *ℤ cosine (betaMas (seriesOf (p .e2)) (φ .0))
+
+-- An accepted answer whose latitude differs from φ by at most `latitude` mas, and whose longitude gap from lon, at φ, is at most n/d mas.
+pub record CloseTo (latitude n d : ℕ) (p : Parameters) (φ : Geodetic) (lon : ℤ) (answer : GeodeticAnswer) : Type 0 where
+  pub φ′ : Geodetic
+  pub lon′ : ℤ
+  pub accepted : answer ≡ Position φ′ lon′
+  pub latitude-close : natAbs (φ′ .0 -ℤ φ .0) ≤ latitude
+  pub longitude-close : (pos d *ℤ longitudeGap p φ lon lon′) ≤ℤ pos (n * unit)
+
+-- "every position at most 89 degrees from the Equator whose forward answer is accepted and whose nearness G in the forward steps is at least 1,000,000,000.
+-- The inverse answer for exactly that easting and northing, with the same set, is accepted" and close to the position.
+unfoldable pub RoundTripAt : (latitude n d : ℕ) → Parameters → Geodetic → ℤ → Type 0
+RoundTripAt latitude n d p φ lon =
+    (E N : ℤ) →
+    setRefusal p ≡ 0 →
+    natAbs (φ .0) ≤ farthest-latitude →
+    forwardOf p φ lon ≡ Plane E N →
+    pos least-nearness ≤ℤ nearness p φ lon →
+    CloseTo latitude n d p φ lon (inverseOf p E N)
+
+-- Demand 3: for every accepted set and every such position, both bounds hold.
+abbrev pub Demand3 : Type 0
+Demand3 = (p : Parameters) (φ : Geodetic) (lon : ℤ) → RoundTripAt latitude-bound gap-bound 1 p φ lon
+
+-- What the proof gives.
+abbrev pub SharpRoundTrip : Type 0
+SharpRoundTrip = (p : Parameters) (φ : Geodetic) (lon : ℤ) → RoundTripAt sharp-latitude-bound sharp-gap-halves 2 p φ lon
+
+-- There and back in one call: the inverse of a forward answer, or its refusal.
+unfoldable pub thereAndBack : Parameters → PlaneAnswer → GeodeticAnswer
+thereAndBack p (Plane E N) = inverseOf p E N
+thereAndBack p (Refused n) = NotFound n
