@@ -6,15 +6,34 @@ use Rattle.integers.specs.Near.{near}
 use Rattle.sine_table.specs.Table.{entry}
 use Rattle.trig.specs.Sine.{sine}
 use Rattle.trig.specs.Angle.{angle}
+use Rattle.projection.specs.declared.parameters.Parameters.{Parameters}
+use Rattle.projection.specs.declared.forward.PlaneAnswer.{PlaneAnswer}
+use Rattle.projection.specs.declared.forward.PlaneAnswer.the-variants.{Plane}
+use Rattle.projection.specs.ForwardSteps.{forwardOf}
 
-infix 40 _is_
+-- a number, or an answer of the forward steps, and what it is
+infix 40 _is_ _goes-to_
 pub data Case : Type 0 where
   _is_ : ℤ → ℤ → Case
+  _goes-to_ : PlaneAnswer → PlaneAnswer → Case
 
 -- every case of the list holds
 abbrev pub All : List Case → Type 0
 All [] = Unit {0}
 All ((a is b) ∷ cases) = (a ≡ b) × All cases
+All ((a goes-to b) ∷ cases) = (a ≡ b) × All cases
+
+-- "the sphere a = 600,000,000 with centre (0, 0) and no false origin"
+abbrev pub sphere : Parameters
+sphere =
+    record {
+      a = pos 600_000_000;
+      e2 = pos 0;
+      lat0 = record { 0 = pos 0 };
+      lon0 = pos 0;
+      «false_easting» = pos 0;
+      «false_northing» = pos 0;
+    }
 
 -- `negsuc n` is −(n + 1)
 abbrev pub P : List Case
@@ -28,4 +47,5 @@ P =
     ∷ (pos (angle 7 7) is pos 162_000_000)
     ∷ (pos (angle 0 1) is pos 324_000_000)
     ∷ (pos (angle 0 0) is pos 0)
+    ∷ (forwardOf sphere (record { 0 = pos 0 }) (pos 324_000_000) goes-to Plane (pos 848_528_138) (pos 0))
     ∷ []

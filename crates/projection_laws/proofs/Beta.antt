@@ -1,0 +1,22 @@
+-- The laws of β that the projection's proofs rest on, for the coefficients of e2.
+-- Assumes nothing.
+use lib.IntN.{pos}
+use Rattle.projection.specs.ParameterSet.{accepted-e2}
+use Rattle.projection.specs.Derived.{seriesOf}
+use Rattle.projection.proofs.AcceptedSet.{within-bounds}
+use Rattle.projection.proofs.AuthalicLaws.{beta-odd as odd, beta-≤, beta-north-pole, beta-south-pole}
+use Rattle.projection.proofs.SeriesLaws.{series-small}
+use Rattle.proof_kit.proofs.Order.{order, abs-between, ≤ℤ-trans}
+use Rattle.projection_laws.specs.Theorems.{BetaOdd, BetaNeverFalls, BetaPoles}
+
+pub beta-odd : BetaOdd
+beta-odd e2 φ = odd (seriesOf e2) φ
+
+pub beta-never-falls : BetaNeverFalls
+unfolding accepted-e2
+beta-never-falls e2 ok φ ψ h =
+    let e = within-bounds (pos 0) (pos 10_000_000) e2 ok in
+    beta-≤ (seriesOf e2) (series-small e2 (abs-between e2 (≤ℤ-trans (omega order) (e .0)) (e .1))) h
+
+pub beta-poles : BetaPoles
+beta-poles e2 = (beta-north-pole (seriesOf e2), beta-south-pole (seriesOf e2))

@@ -1,0 +1,268 @@
+-- The centre, the pole of a polar set and the point opposite to the centre.
+-- Where u and w are 0 and the position is near enough, it goes to the false origin. At the centre u is 0 as sine(0) is, w is C0·S0 − S0·C0, and G is 2U but for what sine² + cosine² lacks.
+-- Assumes nothing.
+use mathlib.Core.Path.{_≡_, refl, ap, ap₂, _∙_}
+use mathlib.Core.Bool.{true}
+use mathlib.Core.List.{[], _∷_}
+use mathlib.Core.Logic.{_⊎_, inl, inr}
+use Prim.Native.Nat.{ℕ, suc, _+_, _*_, _<_, _≤_}
+use native.Mathlib.Nat.{le-trans}
+use lib.Dec.{lit<, lit≤}
+use lib.IntN.{ℤ, pos, negsuc, negℤ, natAbs, _+ℤ_, _-ℤ_, _*ℤ_, +ℤ-idr, +ℤ-invr, *ℤ-zero, zero-*ℤ}
+use lib.Signed.{_≤ℤ_, _<ℤ_}
+use Rattle.proof_kit.proofs.Laws.{parts-+, P-neg, N-neg, natAbs-parts, parts--}
+use Rattle.proof_kit.proofs.Ring.{ring, quote}
+use Rattle.proof_kit.proofs.Size.{abs-neg}
+use Rattle.proof_kit.proofs.Order.{order}
+use Rattle.integers.specs.Near.{near}
+use Rattle.integers.proofs.Rounding.{near-zero, near-whole, near-mono, near-odd}
+use Rattle.sine_table.specs.Table.{unit}
+use Rattle.trig.specs.Sine.{right-angle, half-turn, sine, cosine}
+use Rattle.trig.proofs.Interface.{sine-zero, sine-right, sine-odd, cosine-zero, cosine-right, cosine-even, cosine-quarter-turn, near-circle}
+use Rattle.projection.specs.declared.latitude.Geodetic.{Geodetic}
+use Rattle.projection.specs.declared.parameters.Parameters.{Parameters}
+use Rattle.projection.specs.declared.constants.Constants.{Constants}
+use Rattle.projection.specs.declared.forward.PlaneAnswer.the-variants.{Plane, Refused}
+use Rattle.projection.specs.declared.inverse.GeodeticAnswer.the-variants.{Position}
+use Rattle.projection.specs.ParameterSet.{within, same, polar, setRefusal}
+use Rattle.projection.specs.Latitude.{betaMas}
+use Rattle.projection.specs.Derived.{U, seriesOf, β0, S0, C0, constantsOf}
+use Rattle.projection.specs.ForwardSteps.{H, b, c, u, v, w, G, dE, dN, nearness, forwardOf}
+use Rattle.projection.specs.InverseSteps.{at-origin, inverseOf}
+use Rattle.projection.proofs.AcceptedSet.{accepted, lat0-size, polar-cases}
+use Rattle.projection.proofs.AuthalicLaws.{beta-odd, beta-north-pole, beta-south-pole}
+use Rattle.projection.proofs.ForwardLaws.{H-least, forward-too-far, forward-plane, forward-of-accepted}
+use Rattle.projection.proofs.InverseLaws.{unprojected-origin, inverse-on-plane, inverse-of-accepted}
+use Rattle.projection.specs.Answers.{plane-told, geodetic-told}
+use Rattle.projection_laws.specs.Theorems.{CentreForward, CentreInverse, PoleForward, OppositeForward}
+use Rattle.projection_laws.proofs.Tests.{on-globe-by, on-plane-by, near-enough-by, not-near-enough}
+
+some : 0 < unit
+some = lit< tt
+
+none : (z : ℤ) → z -ℤ z ≡ pos 0
+none z = +ℤ-invr z
+
+-- ---- u and w 0: the false origin
+
+-- near(r·0/H) is 0, where G is at least 20,000,000
+no-distance : (r x g : ℤ) → x ≡ pos 0 → pos 20_000_000 ≤ℤ g → near (r *ℤ x) (H g) ≡ pos 0
+no-distance r x g e h =
+    ap (λ (z : ℤ). near z (H g)) (ap (λ (y : ℤ). r *ℤ y) e ∙ *ℤ-zero r) ∙ near-zero (H g) (le-trans (lit< tt) (H-least g h))
+
+-- a position whose u and w are 0
+module _ (p : Parameters) (ok : setRefusal p ≡ 0) (φ : Geodetic) (lon : ℤ) (φ-size : natAbs (φ .0) ≤ right-angle) (lon-size : natAbs lon ≤ half-turn) where
+  pub to-false-origin :
+      u (constantsOf p) (φ .0) (lon -ℤ p .lon0) ≡ pos 0 →
+      w (constantsOf p) (φ .0) (lon -ℤ p .lon0) ≡ pos 0 →
+      pos 20_000_000 ≤ℤ G (constantsOf p) (φ .0) (lon -ℤ p .lon0) →
+      forwardOf p φ lon ≡ Plane (p .«false_easting») (p .«false_northing»)
+  unfolding nearness dE dN
+  to-false-origin no-u no-w h =
+      forward-of-accepted p φ lon ok
+      ∙ forward-plane p φ lon (on-globe-by φ lon φ-size lon-size) (near-enough-by h)
+      ∙ ap₂ (λ (x y : ℤ). Plane (p .«false_easting» +ℤ x) (p .«false_northing» +ℤ y))
+      (no-distance (constantsOf p .rd) (u (constantsOf p) (φ .0) (lon -ℤ p .lon0)) (G (constantsOf p) (φ .0) (lon -ℤ p .lon0)) no-u h)
+      (no-distance (constantsOf p .rn) (w (constantsOf p) (φ .0) (lon -ℤ p .lon0)) (G (constantsOf p) (φ .0) (lon -ℤ p .lon0)) no-w h)
+      ∙ ap₂ Plane (+ℤ-idr (p .«false_easting»)) (+ℤ-idr (p .«false_northing»))
+
+  pub to-refused-4 : G (constantsOf p) (φ .0) (lon -ℤ p .lon0) <ℤ pos 20_000_000 → forwardOf p φ lon ≡ Refused 4
+  unfolding nearness
+  to-refused-4 h =
+      forward-of-accepted p φ lon ok ∙ forward-too-far p φ lon (on-globe-by φ lon φ-size lon-size) (not-near-enough h)
+
+-- ---- sine² + cosine², rounded: at least U − 25
+
+circle-least : (t : ℤ) → pos 999_999_975 ≤ℤ near (sine t *ℤ sine t +ℤ cosine t *ℤ cosine t) unit
+circle-least t =
+    rw (near-whole (pos 999_999_975) unit some) at (near-mono (pos 999_999_975 *ℤ pos unit) (sine t *ℤ sine t +ℤ cosine t *ℤ cosine t) unit some (least (sine t *ℤ sine t +ℤ cosine t *ℤ cosine t) (near-circle t)))
+  where
+    least : (z : ℤ) → natAbs (z -ℤ pos (unit * unit)) ≤ 25 * unit → pos (999_999_975 * unit) ≤ℤ z
+    least z h = omega (order, natAbs-parts (z -ℤ pos (unit * unit)), parts-- z (pos (unit * unit)))
+
+-- ---- the centre: φ = φ0 and Δ = 0, for the constants of any set
+
+above : (z : ℤ) → pos 999_999_975 ≤ℤ z → pos 20_000_000 ≤ℤ (U +ℤ z)
+above z h = omega (order, parts-+ U z)
+
+below : (z : ℤ) → pos 999_999_975 ≤ℤ z → (U +ℤ negℤ z) <ℤ pos 20_000_000
+below z h = omega (order, parts-+ U (negℤ z), P-neg z, N-neg z)
+
+nothing-left : {z : ℤ} → z ≡ pos 0 → near z unit ≡ pos 0
+nothing-left e = ap (λ (z : ℤ). near z unit) e ∙ near-zero unit some
+
+module _ (p : Parameters) where
+  k : Constants
+  k = constantsOf p
+
+  φ0 : ℤ
+  φ0 = p .lat0 .0
+
+  S : ℤ
+  S = S0 (p .e2) φ0
+
+  C : ℤ
+  C = C0 (p .e2) φ0
+
+  -- S0² + C0², rounded
+  radius-least : pos 999_999_975 ≤ℤ near (S *ℤ S +ℤ C *ℤ C) unit
+  unfolding S C S0 C0
+  radius-least = circle-least (β0 (p .e2) φ0)
+
+  -- at the centre's latitude b and c are S0 and C0; at the opposite one, −S0 and C0
+  centre-b : (Δ : ℤ) → b k φ0 Δ ≡ S
+  unfolding b k φ0 S constantsOf S0 β0
+  centre-b Δ = refl
+
+  centre-c : (Δ : ℤ) → c k φ0 Δ ≡ C
+  unfolding c k φ0 C constantsOf C0 β0
+  centre-c Δ = refl
+
+  opposite-b : (Δ : ℤ) → b k (negℤ φ0) Δ ≡ negℤ S
+  unfolding b k φ0 S constantsOf S0 β0
+  opposite-b Δ = ap sine (beta-odd (seriesOf (p .e2)) (p .lat0 .0)) ∙ sine-odd (betaMas (seriesOf (p .e2)) (p .lat0 .0))
+
+  opposite-c : (Δ : ℤ) → c k (negℤ φ0) Δ ≡ C
+  unfolding c k φ0 C constantsOf C0 β0
+  opposite-c Δ = ap cosine (beta-odd (seriesOf (p .e2)) (p .lat0 .0)) ∙ cosine-even (betaMas (seriesOf (p .e2)) (p .lat0 .0))
+
+  -- w and G, where b and v are known
+  w-by : (φ Δ : ℤ) {x y : ℤ} → b k φ Δ ≡ x → v k φ Δ ≡ y → w k φ Δ ≡ near (C *ℤ x -ℤ S *ℤ y) unit
+  unfolding w k S C φ0 constantsOf
+  w-by φ Δ e f = ap₂ (λ (x y : ℤ). near (C *ℤ x -ℤ S *ℤ y) unit) e f
+
+  G-by : (φ Δ : ℤ) {x y : ℤ} → b k φ Δ ≡ x → v k φ Δ ≡ y → G k φ Δ ≡ U +ℤ near (S *ℤ x +ℤ C *ℤ y) unit
+  unfolding G k S C φ0 constantsOf
+  G-by φ Δ e f = ap₂ (λ (x y : ℤ). U +ℤ near (S *ℤ x +ℤ C *ℤ y) unit) e f
+
+  -- v is c, or −c, where the cosine of Δ is U, or −U
+  v-by : (φ Δ : ℤ) {x y : ℤ} → c k φ Δ ≡ x → cosine Δ ≡ y → v k φ Δ ≡ near (x *ℤ y) unit
+  unfolding v
+  v-by φ Δ e f = ap₂ (λ (x y : ℤ). near (x *ℤ y) unit) e f
+
+  u-by : (φ Δ : ℤ) {x y : ℤ} → c k φ Δ ≡ x → sine Δ ≡ y → u k φ Δ ≡ near (x *ℤ y) unit
+  unfolding u
+  u-by φ Δ e f = ap₂ (λ (x y : ℤ). near (x *ℤ y) unit) e f
+
+  centre-u : u k φ0 (pos 0) ≡ pos 0
+  centre-u = u-by φ0 (pos 0) (centre-c (pos 0)) sine-zero ∙ nothing-left (*ℤ-zero C)
+
+  centre-v : v k φ0 (pos 0) ≡ C
+  centre-v = v-by φ0 (pos 0) (centre-c (pos 0)) cosine-zero ∙ near-whole C unit some
+
+  centre-w : w k φ0 (pos 0) ≡ pos 0
+  centre-w = w-by φ0 (pos 0) (centre-b (pos 0)) centre-v ∙ nothing-left (crossed C S)
+    where
+      crossed : (x y : ℤ) → x *ℤ y -ℤ y *ℤ x ≡ pos 0
+      crossed x y = ring (x ∷ y ∷ []) (search quote depth 40 fits 20000) tt
+
+  centre-G : pos 20_000_000 ≤ℤ G k φ0 (pos 0)
+  centre-G = rw (G-by φ0 (pos 0) (centre-b (pos 0)) centre-v) (above (near (S *ℤ S +ℤ C *ℤ C) unit) radius-least)
+
+  -- ---- the point opposite to the centre
+
+  opposite-v : (Δ : ℤ) → cosine Δ ≡ negℤ U → v k (negℤ φ0) Δ ≡ negℤ C
+  opposite-v Δ e = v-by (negℤ φ0) Δ (opposite-c Δ) e ∙ ap (λ (z : ℤ). near z unit) (moved C U) ∙ near-whole (negℤ C) unit some
+    where
+      moved : (x y : ℤ) → x *ℤ negℤ y ≡ negℤ x *ℤ y
+      moved x y = ring (x ∷ y ∷ []) (search quote depth 40 fits 20000) tt
+
+  opposite-G : (Δ : ℤ) → cosine Δ ≡ negℤ U → G k (negℤ φ0) Δ <ℤ pos 20_000_000
+  opposite-G Δ e =
+      rw (G-by (negℤ φ0) Δ (opposite-b Δ) (opposite-v Δ e), turned S C, near-odd (S *ℤ S +ℤ C *ℤ C) unit some)
+      (below (near (S *ℤ S +ℤ C *ℤ C) unit) radius-least)
+    where
+      turned : (x y : ℤ) → x *ℤ negℤ x +ℤ y *ℤ negℤ y ≡ negℤ (x *ℤ x +ℤ y *ℤ y)
+      turned x y = ring (x ∷ y ∷ []) (search quote depth 40 fits 20000) tt
+
+  -- ---- a pole, where C0 = 0 and S0 = ±U: the longitude falls out
+
+  module _ (no-C : C ≡ pos 0) (S-square : near (S *ℤ S) unit ≡ U) (Δ : ℤ) where
+    pole-u : u k φ0 Δ ≡ pos 0
+    pole-u = u-by φ0 Δ (centre-c Δ ∙ no-C) refl ∙ nothing-left (zero-*ℤ (sine Δ))
+
+    pole-v : v k φ0 Δ ≡ pos 0
+    pole-v = v-by φ0 Δ (centre-c Δ ∙ no-C) refl ∙ nothing-left (zero-*ℤ (cosine Δ))
+
+    pole-w : w k φ0 Δ ≡ pos 0
+    pole-w =
+        w-by φ0 Δ (centre-b Δ) pole-v ∙ nothing-left (ap (λ (z : ℤ). z *ℤ S -ℤ S *ℤ pos 0) no-C ∙ gone S)
+      where
+        gone : (x : ℤ) → pos 0 *ℤ x -ℤ x *ℤ pos 0 ≡ pos 0
+        gone x = ring (x ∷ []) (search quote depth 40 fits 20000) tt
+
+    pole-G : pos 20_000_000 ≤ℤ G k φ0 Δ
+    pole-G =
+        rw (G-by φ0 Δ (centre-b Δ) pole-v, *ℤ-zero C, +ℤ-idr (S *ℤ S), S-square) (above U (omega order))
+
+-- C0 and S0 of a pole
+pole-C : (p : Parameters) → (φ0 p ≡ pos right-angle) ⊎ (φ0 p ≡ negℤ (pos right-angle)) → C p ≡ pos 0
+unfolding C C0 β0
+pole-C p (inl e) = ap (λ (z : ℤ). cosine (betaMas (seriesOf (p .e2)) z)) e ∙ ap cosine (beta-north-pole (seriesOf (p .e2))) ∙ cosine-right
+pole-C p (inr e) =
+    ap (λ (z : ℤ). cosine (betaMas (seriesOf (p .e2)) z)) e ∙ ap cosine (beta-south-pole (seriesOf (p .e2))) ∙ cosine-even (pos right-angle) ∙ cosine-right
+
+pole-S : (p : Parameters) → (φ0 p ≡ pos right-angle) ⊎ (φ0 p ≡ negℤ (pos right-angle)) → near (S p *ℤ S p) unit ≡ U
+unfolding S S0 β0
+pole-S p (inl e) =
+    ap (λ (z : ℤ). near (z *ℤ z) unit) (ap (λ (z : ℤ). sine (betaMas (seriesOf (p .e2)) z)) e ∙ ap sine (beta-north-pole (seriesOf (p .e2))) ∙ sine-right)
+    ∙ near-whole U unit some
+pole-S p (inr e) =
+    ap (λ (z : ℤ). near (z *ℤ z) unit)
+    (ap (λ (z : ℤ). sine (betaMas (seriesOf (p .e2)) z)) e ∙ ap sine (beta-south-pole (seriesOf (p .e2))) ∙ sine-odd (pos right-angle) ∙ ap negℤ sine-right)
+    ∙ near-whole U unit some
+
+-- ---- the answers
+
+module _ (p : Parameters) (ok : setRefusal p ≡ 0) where
+  φ0-size : natAbs (p .lat0 .0) ≤ right-angle
+  φ0-size = lat0-size (p .lat0 .0) (accepted p ok .lat0-accepted)
+
+  pub centre-plane : forwardOf p (p .lat0) (p .lon0) ≡ Plane (p .«false_easting») (p .«false_northing»)
+  unfolding k φ0
+  centre-plane =
+      to-false-origin p ok (p .lat0) (p .lon0) φ0-size (accepted p ok .lon0-size)
+      (rw (none (p .lon0)) (centre-u p)) (rw (none (p .lon0)) (centre-w p)) (rw (none (p .lon0)) (centre-G p))
+
+  pub centre-position : inverseOf p (p .«false_easting») (p .«false_northing») ≡ Position (p .lat0) (p .lon0)
+  unfolding at-origin same within
+  centre-position =
+      inverse-of-accepted p (p .«false_easting») (p .«false_northing») ok
+      ∙ inverse-on-plane p (p .«false_easting») (p .«false_northing») (on-plane-by (p .«false_easting») (p .«false_northing») (le-trans (accepted p ok .easting-size) (lit≤ tt)) (le-trans (accepted p ok .northing-size) (lit≤ tt)))
+      ∙ unprojected-origin p (constantsOf p) (p .«false_easting» -ℤ p .«false_easting») (p .«false_northing» -ℤ p .«false_northing») (rw (none (p .«false_easting»), none (p .«false_northing»)) refl)
+
+  pub pole-plane : polar (p .lat0 .0) ≡ true → (lon : ℤ) → natAbs lon ≤ half-turn → forwardOf p (p .lat0) lon ≡ Plane (p .«false_easting») (p .«false_northing»)
+  unfolding k φ0
+  pole-plane is-pole lon size =
+      let cases = polar-cases (p .lat0 .0) is-pole in
+      let no-C = pole-C p cases in
+      let S-square = pole-S p cases in
+      to-false-origin p ok (p .lat0) lon φ0-size size
+      (pole-u p no-C S-square (lon -ℤ p .lon0)) (pole-w p no-C S-square (lon -ℤ p .lon0)) (pole-G p no-C S-square (lon -ℤ p .lon0))
+
+  pub opposite-refused : (lon : ℤ) → natAbs lon ≤ half-turn → natAbs (lon -ℤ p .lon0) ≡ half-turn → forwardOf p (record { 0 = negℤ (p .lat0 .0) }) lon ≡ Refused 4
+  unfolding k φ0
+  opposite-refused lon size half =
+      to-refused-4 p ok (record { 0 = negℤ (p .lat0 .0) }) lon (rw (abs-neg (p .lat0 .0)) φ0-size) size
+      (opposite-G p (lon -ℤ p .lon0) (half-cosine (lon -ℤ p .lon0) half))
+    where
+      cosine-half : cosine (pos half-turn) ≡ negℤ U
+      cosine-half = cosine-quarter-turn (pos right-angle) ∙ ap negℤ sine-right
+
+      half-cosine : (Δ : ℤ) → natAbs Δ ≡ half-turn → cosine Δ ≡ negℤ U
+      half-cosine (pos n) e = ap (λ (m : ℕ). cosine (pos m)) e ∙ cosine-half
+      half-cosine (negsuc n) e = cosine-even (pos (suc n)) ∙ ap (λ (m : ℕ). cosine (pos m)) e ∙ cosine-half
+
+-- ---- as told
+
+pub centre-forward : CentreForward
+centre-forward p ok = ap plane-told (centre-plane p ok)
+
+pub centre-inverse : CentreInverse
+centre-inverse p ok = ap geodetic-told (centre-position p ok)
+
+pub pole-forward : PoleForward
+pole-forward p ok is-pole lon size = ap plane-told (pole-plane p ok is-pole lon size)
+
+pub opposite-forward : OppositeForward
+opposite-forward p ok lon size half = ap plane-told (opposite-refused p ok lon size half)

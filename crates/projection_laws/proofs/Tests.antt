@@ -1,0 +1,41 @@
+-- When the tests of the steps are passed: of sizes, of a position, of a plane point and of nearness.
+-- Assumes nothing.
+use mathlib.Core.Path.{_≡_, refl, ap}
+use mathlib.Core.Bool.{Bool, true, false, _&&_}
+use Prim.Native.Nat.{ℕ, _≤_}
+use lib.IntN.{ℤ, pos, negℤ, natAbs}
+use lib.Signed.{_≤ℤ_, _<ℤ_}
+use Rattle.proof_kit.proofs.Order.{abs-lower, abs-upper, le-leZ, lt-leZ}
+use Rattle.trig.specs.Sine.{right-angle, half-turn}
+use Rattle.projection.specs.declared.latitude.Geodetic.{Geodetic}
+use Rattle.projection.specs.ParameterSet.{within}
+use Rattle.projection.specs.ForwardSteps.{near-enough, on-globe}
+use Rattle.projection.specs.InverseSteps.{on-plane}
+
+-- two tests, of which one fails
+pub second-fails : (a : Bool) {b : Bool} → b ≡ false → (a && b) ≡ false
+second-fails true e = e
+second-fails false e = refl
+
+pub first-fails : {a : Bool} (b : Bool) → a ≡ false → (a && b) ≡ false
+first-fails b e = ap (λ (a : Bool). a && b) e
+
+pub size-within : (n : ℕ) (z : ℤ) → natAbs z ≤ n → within (negℤ (pos n)) (pos n) z ≡ true
+unfolding within
+size-within n z h = rw (le-leZ (abs-lower z h), le-leZ (abs-upper z h))
+
+pub on-globe-by : (φ : Geodetic) (lon : ℤ) → natAbs (φ .0) ≤ right-angle → natAbs lon ≤ half-turn → on-globe φ lon ≡ true
+unfolding on-globe
+on-globe-by φ lon h l = rw (size-within right-angle (φ .0) h, size-within half-turn lon l)
+
+pub on-plane-by : (E N : ℤ) → natAbs E ≤ 5_000_000_000 → natAbs N ≤ 5_000_000_000 → on-plane E N ≡ true
+unfolding on-plane
+on-plane-by E N h l = rw (size-within 5_000_000_000 E h, size-within 5_000_000_000 N l)
+
+pub near-enough-by : {g : ℤ} → pos 20_000_000 ≤ℤ g → near-enough g ≡ true
+unfolding near-enough
+near-enough-by h = le-leZ h
+
+pub not-near-enough : {g : ℤ} → g <ℤ pos 20_000_000 → near-enough g ≡ false
+unfolding near-enough
+not-near-enough h = lt-leZ h

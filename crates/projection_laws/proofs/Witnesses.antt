@@ -1,0 +1,79 @@
+-- The witnesses: a concrete set and input for each refusal and for an accepted answer, in each direction.
+-- No root is computed: what is beyond the map is beyond twice the greatest RD of any set.
+-- Assumes nothing.
+use mathlib.Core.Path.{_≡_, refl, ap, _∙_, subst}
+use mathlib.Core.Bool.{false}
+use Prim.Native.Nat.{ℕ, _*_, _≤_}
+use native.Mathlib.Omega.{arith}
+use lib.Dec.{lit≤}
+use lib.IntN.{ℤ, pos, negℤ, natAbs, _*ℤ_}
+use lib.Signed.{_<ℤ_, leZ}
+use Rattle.proof_kit.proofs.Order.{order, lt-leZ}
+use Rattle.projection.specs.ParameterSet.{within, same, polar, accepted-a, accepted-e2, accepted-lat0, accepted-lon0, accepted-false, firstRefusal, setRefusal, etrsLaea}
+use Rattle.projection.specs.Derived.{constantsOf}
+use Rattle.projection.specs.ForwardSteps.{on-globe}
+use Rattle.projection.specs.InverseSteps.{at-origin, on-map, on-plane}
+use Rattle.projection.proofs.AcceptedSet.{Between}
+use Rattle.projection.proofs.ConstantsLaws.{sound}
+use Rattle.projection.proofs.ForwardLaws.{forward-off-globe, forward-of-accepted, forward-of-refused}
+use Rattle.projection.proofs.InverseLaws.{unprojected-off-map, inverse-off-plane, inverse-on-plane, inverse-of-accepted, inverse-of-refused}
+use Rattle.projection.specs.Answers.{plane-told, geodetic-told}
+use Rattle.projection_laws.specs.Theorems.{sizeless, ForwardWitnesses, InverseWitnesses}
+use Rattle.projection_laws.proofs.Centre.{centre-forward, centre-inverse, opposite-forward}
+use Rattle.projection_laws.proofs.Tests.{first-fails, second-fails, on-plane-by}
+
+-- the two sets, tested
+sets : (setRefusal etrsLaea ≡ 0) × (setRefusal sizeless ≡ 1)
+unfolding setRefusal firstRefusal accepted-a accepted-e2 accepted-lat0 polar same accepted-lon0 accepted-false within
+sets = (refl, refl)
+
+not-none : _≡_ {A = ℕ} 1 0 → ⊥
+not-none e = omega arith
+
+-- ---- forward
+
+beyond-pole : on-globe (record { 0 = pos 324_000_001 }) (pos 0) ≡ false
+unfolding on-globe within
+beyond-pole = refl
+
+pub forward-witnesses : ForwardWitnesses
+forward-witnesses = (
+  centre-forward etrsLaea (sets .0),
+  ap plane-told (forward-of-refused sizeless (record { 0 = pos 187_200_000 }) (pos 36_000_000) 1 not-none (sets .1)),
+  ap plane-told (forward-of-accepted etrsLaea (record { 0 = pos 324_000_001 }) (pos 0) (sets .0) ∙ forward-off-globe etrsLaea (record { 0 = pos 324_000_001 }) (pos 0) beyond-pole),
+  opposite-forward etrsLaea (sets .0) (negℤ (pos 612_000_000)) (lit≤ tt) refl,
+)
+
+-- ---- inverse
+
+beyond-plane : on-plane (pos 5_000_000_001) (pos 0) ≡ false
+unfolding on-plane within
+beyond-plane = refl
+
+-- RD is at most 1,080,000,000, so dE of 4,567,900,000 is beyond twice RD
+beyond : (r : ℤ) {low : ℕ} → Between r low 1_080_000_000 → within (negℤ (pos 2 *ℤ r)) (pos 2 *ℤ r) (pos 4_567_900_000) ≡ false
+unfolding within
+beyond r h =
+    let far : pos (2 * natAbs r) <ℤ pos 4_567_900_000 = omega (order, h .most) in
+    second-fails (leZ (negℤ (pos 2 *ℤ r)) (pos 4_567_900_000)) (lt-leZ (subst (λ (x : ℤ). (pos 2 *ℤ x) <ℤ pos 4_567_900_000) (h .natural) far))
+
+off-map : (dN : ℤ) → on-map (constantsOf etrsLaea) (pos 4_567_900_000) dN ≡ false
+unfolding on-map
+off-map dN =
+    let k = constantsOf etrsLaea in
+    first-fails (within (negℤ (pos 2 *ℤ k .rn)) (pos 2 *ℤ k .rn) dN) (beyond (k .rd) (sound etrsLaea (sets .0) .rd-between))
+
+not-origin : at-origin (pos 4_567_900_000) (negℤ (pos 321_000_000)) ≡ false
+unfolding at-origin same within
+not-origin = refl
+
+pub inverse-witnesses : InverseWitnesses
+inverse-witnesses = (
+  centre-inverse etrsLaea (sets .0),
+  ap geodetic-told (inverse-of-refused sizeless (pos 432_100_000) (pos 321_000_000) 1 not-none (sets .1)),
+  ap geodetic-told (inverse-of-accepted etrsLaea (pos 5_000_000_001) (pos 0) (sets .0) ∙ inverse-off-plane etrsLaea (pos 5_000_000_001) (pos 0) beyond-plane),
+  ap geodetic-told
+      (inverse-of-accepted etrsLaea (pos 5_000_000_000) (pos 0) (sets .0)
+      ∙ inverse-on-plane etrsLaea (pos 5_000_000_000) (pos 0) (on-plane-by (pos 5_000_000_000) (pos 0) (lit≤ tt) (lit≤ tt))
+      ∙ unprojected-off-map etrsLaea (constantsOf etrsLaea) (pos 4_567_900_000) (negℤ (pos 321_000_000)) not-origin (off-map (negℤ (pos 321_000_000)))),
+)
