@@ -3,13 +3,13 @@
 use mathlib.Core.Path.{_≡_, refl, sym, ap, _∙_, subst}
 use mathlib.Core.Bool.{Bool}
 use mathlib.Core.List.{[], _∷_}
-use Prim.Native.Nat.{ℕ, zero, suc, _+_, _*_, _/_, _%_, _<_, _≤_, _^_}
-use native.Mathlib.Nat.{div-eq-of-lt-le, div-add-mod, mod-lt, div-mul-le-self, lt-div-mul-add, le-div-iff-mul-le, le-trans, le-of-lt, mul-le-mul-right, div-le-self}
+use Prim.Native.Nat.{ℕ, zero, suc, _+_, _*_, _/_, _<_, _≤_}
+use native.Mathlib.Nat.{div-eq-of-lt-le, div-mul-le-self, lt-div-mul-add, le-div-iff-mul-le, le-trans, div-le-self}
 use native.Mathlib.Omega.{arith}
 use lib.Dec.{leb·suc-zero}
 use lib.IntN.{ℤ, pos, negsuc, negℤ, natAbs, _+ℤ_, _-ℤ_, _*ℤ_, negℤ-negℤ}
 use lib.Signed.{_≤ℤ_}
-use Rattle.proof_kit.proofs.Laws.{natAbs-parts, parts--, one-part, P-neg, N-neg, negℤ-*ˡ, diff-zero}
+use Rattle.proof_kit.proofs.Laws.{natAbs-parts, parts--, one-part, P-neg, N-neg, diff-zero}
 use Rattle.proof_kit.proofs.Ring.{ring, quote}
 use Rattle.proof_kit.proofs.Size.{abs-neg, abs-add, abs-sub, abs-sub-sym, abs-via, abs-mul}
 use Rattle.proof_kit.proofs.Order.{order}

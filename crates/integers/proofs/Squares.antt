@@ -1,16 +1,14 @@
 -- Laws of root, and of Newton's iteration towards it: a step from above the root gives a smaller number that is not below it.
 -- Assumes nothing.
-use mathlib.Core.Path.{_≡_, refl, sym, ap, _∙_, subst}
-use mathlib.Core.Bool.{Bool, true, false}
+use mathlib.Core.Path.{_≡_, subst}
 use mathlib.Core.Logic.{_⊎_, inl, inr}
 use Prim.Native.Nat.{ℕ, zero, suc, _+_, _*_, _/_, _-_, _<_, _≤_, zero-le}
-use native.Mathlib.Nat.{le-trans, le-of-lt, lt-of-lt-of-le, lt-of-le-of-lt, add-sub-of-le, mul-le-mul, lt-div-mul-add, div-lt-iff-lt-mul, not-le-of-lt}
+use native.Mathlib.Nat.{le-trans, le-of-lt, lt-of-lt-of-le, lt-of-le-of-lt, add-sub-of-le, mul-le-mul, lt-div-mul-add, div-lt-iff-lt-mul}
 use native.Mathlib.Omega.{arith}
 use lib.Dec.{leb}
-use borrow.Author.Tests.{le-leb, lt-leb, leb-true, leb-false}
+use borrow.Author.Tests.{le-leb, lt-leb, leb-true}
 use Rattle.proof_kit.proofs.Order.{le-or-lt}
 use Rattle.proof_kit.proofs.Size.{square-lt}
-use Rattle.integers.specs.Greatest.{greatest}
 use Rattle.integers.specs.Root.{root}
 use Rattle.integers.proofs.Greatest.{greatest-is, greatest-passes, greatest-ge}
 

@@ -1,8 +1,8 @@
 -- Rounded division, document 01, "Words": near(n/d) is the whole number nearest to n/d, halves away from zero.
 -- The divisor d is a positive whole number.
-use Prim.Native.Nat.{ℕ, suc, _+_, _*_, _/_}
+use Prim.Native.Nat.{ℕ, _+_, _*_, _/_}
 use mathlib.Core.Bool.{Bool, true, false}
-use lib.IntN.{ℤ, pos, negsuc, negℤ, natAbs}
+use lib.IntN.{ℤ, pos, negℤ, natAbs}
 use lib.Signed.{ltZ}
 
 -- The number of a given sign and size.

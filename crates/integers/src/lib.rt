@@ -1,8 +1,7 @@
 // The two words of document 01 on whole numbers: rounded division and the integer root.
 ghost use mathlib.Core.Path.{_≡_};
-ghost use mathlib.Core.Bool.{Bool};
-ghost use Prim.Native.Nat.{_+_, _/_, _<_, _≤_, _^_};
-ghost use lib.IntN.{ℤ, pos, natAbs};
+ghost use Prim.Native.Nat.{_+_, _/_, _<_, _^_};
+ghost use lib.IntN.{natAbs};
 ghost use Rattle.integers.specs.Near.{near, nearest, signed};
 ghost use Rattle.integers.specs.Root.{root};
 

@@ -1,15 +1,14 @@
 -- What acceptance says of each field of a set, as bounds.
 -- Assumes nothing.
-use mathlib.Core.Path.{_≡_, refl, sym, ap, _∙_, subst}
+use mathlib.Core.Path.{_≡_, refl, subst}
 use mathlib.Core.Bool.{Bool, true, false, _&&_, _||_}
 use mathlib.Core.Logic.{_⊎_, inl, inr}
-use Prim.Native.Nat.{ℕ, _<_, _≤_}
+use Prim.Native.Nat.{ℕ, _≤_}
 use native.Mathlib.Omega.{arith}
-use lib.Dec.{T, lit≤}
+use lib.Dec.{lit≤}
 use lib.IntN.{ℤ, pos, negsuc, negℤ, natAbs}
 use lib.Signed.{_≤ℤ_, _<ℤ_, leZ, ltZ}
-use mir.Facts.{and-yes}
-use Rattle.proof_kit.proofs.Order.{order, ≤ℤ-antisym, ≤ℤ-trans, <ℤ-≤ℤ, leZ-true, ltZ-true, abs-between, pos-abs}
+use Rattle.proof_kit.proofs.Order.{order, ≤ℤ-antisym, <ℤ-≤ℤ, leZ-true, ltZ-true, abs-between}
 use Rattle.trig.specs.Sine.{right-angle, half-turn}
 use Rattle.projection.specs.declared.parameters.Parameters.{Parameters}
 use Rattle.projection.specs.ParameterSet.{within, same, polar, accepted-a, accepted-e2, accepted-lat0, accepted-lon0, accepted-false, firstRefusal, setRefusal}

@@ -1,8 +1,6 @@
 -- What the steps use of the constants of an accepted set: small coefficients, a sine and a cosine, and radii near the semi-major axis.
 -- Assumes nothing.
 use mathlib.Core.Path.{_≡_, sym, subst}
-use Prim.Native.Nat.{ℕ, _≤_}
-use lib.IntN.{ℤ, natAbs}
 use Rattle.trig.proofs.Interface.{sine-size, cosine-size}
 use Rattle.projection.specs.declared.parameters.Parameters.{Parameters}
 use Rattle.projection.specs.declared.constants.Constants.{Constants}
@@ -10,7 +8,7 @@ use Rattle.projection.specs.ParameterSet.{setRefusal}
 use Rattle.projection.specs.Latitude.{Small}
 use Rattle.projection.specs.Derived.{β0, S0, C0, constantsOf}
 use Rattle.projection.specs.ForwardSteps.{Turned}
-use Rattle.projection.proofs.AcceptedSet.{Between, Accepted, accepted}
+use Rattle.projection.proofs.AcceptedSet.{Between, accepted}
 use Rattle.projection.proofs.SeriesLaws.{series-small}
 use Rattle.projection.proofs.ScaleLaws.{e2-small, RD-between, RN-between}
 

@@ -1,17 +1,16 @@
 -- Laws of the forward steps: how large each of them is.
 -- Assumes nothing.
-use mathlib.Core.Path.{_≡_, refl, sym, ap, _∙_}
-use Prim.Native.Nat.{ℕ, zero, suc, _+_, _*_, _<_, _≤_}
+use mathlib.Core.Path.{_≡_, refl}
+use Prim.Native.Nat.{ℕ, zero, suc, _<_, _≤_}
 use native.Mathlib.Nat.{le-refl}
 use native.Mathlib.Omega.{arith}
-use lib.Dec.{lit<, lit≤}
+use lib.Dec.{lit<}
 use mathlib.Core.Bool.{true, false}
 use lib.IntN.{ℤ, pos, negℤ, natAbs, _+ℤ_, _-ℤ_, _*ℤ_}
 use lib.Signed.{_≤ℤ_}
 use Rattle.proof_kit.proofs.Size.{abs-mul, abs-mul-le, abs-add-le, abs-sub-le}
 use Rattle.proof_kit.proofs.Order.{order, pos-abs, pos-≤, ≤ℤ-trans}
 use Rattle.integers.specs.Near.{near}
-use Rattle.integers.specs.Root.{root}
 use Rattle.integers.proofs.Rounding.{near-at-most}
 use Rattle.integers.proofs.Squares.{root-least, root-most}
 use Rattle.sine_table.specs.Table.{unit}
@@ -22,7 +21,6 @@ use Rattle.projection.specs.Latitude.{betaMas}
 use Rattle.projection.specs.Derived.{U, constantsOf}
 use Rattle.projection.specs.declared.latitude.Geodetic.{Geodetic}
 use Rattle.projection.specs.declared.parameters.Parameters.{Parameters}
-use Rattle.projection.specs.declared.forward.PlaneAnswer.{PlaneAnswer}
 use Rattle.projection.specs.declared.forward.PlaneAnswer.the-variants.{Plane, Refused}
 use Rattle.projection.specs.ParameterSet.{within, setRefusal}
 use Rattle.projection.proofs.AcceptedSet.{both, within-size}

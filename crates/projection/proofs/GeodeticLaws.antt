@@ -1,24 +1,22 @@
 -- Laws of the way back from an authalic latitude: the South Pole passes the test of the search, and the test stays false once it is false, because β never falls.
 -- Assumes nothing.
-use mathlib.Core.Path.{_≡_, refl, sym, ap, _∙_, subst}
+use mathlib.Core.Path.{_≡_, ap, _∙_}
 use mathlib.Core.Bool.{true}
 use mathlib.Core.List.{[], _∷_}
-use Prim.Native.Nat.{ℕ, _+_, _-_, _≤_, _<_}
+use Prim.Native.Nat.{ℕ, _+_, _-_, _≤_}
 use native.Mathlib.Omega.{arith}
 use lib.IntN.{ℤ, pos, negℤ, natAbs, _+ℤ_, _-ℤ_}
-use lib.Signed.{_≤ℤ_, leZ}
 use mir.Syntax.{w64}
 use mir.Val.{toZ, ofZ}
 use Rattle.proof_kit.proofs.Range.{code, read}
 use Rattle.proof_kit.proofs.Ring.{ring, quote}
 use Rattle.proof_kit.proofs.Size.{within}
 use Rattle.proof_kit.proofs.Order.{≤ℤ-trans, leZ-true, le-leZ, abs-lower}
-use Rattle.integers.specs.Greatest.{greatest}
-use Rattle.integers.proofs.Greatest.{Falls, greatest-le}
+use Rattle.integers.proofs.Greatest.{Falls}
 use Rattle.trig.specs.Sine.{right-angle, half-turn}
 use Rattle.projection.specs.declared.latitude.AuthalicSeries.{AuthalicSeries}
 use Rattle.projection.specs.declared.latitude.Authalic.{Authalic}
-use Rattle.projection.specs.Latitude.{Small, betaMas, from-south-pole, not-above, geodetic}
+use Rattle.projection.specs.Latitude.{Small, betaMas, from-south-pole, not-above}
 use Rattle.projection.proofs.AuthalicLaws.{beta-mono, beta-south-pole}
 
 pub not-above-pole : (k : AuthalicSeries) (β : Authalic) → natAbs (β .0) ≤ right-angle → not-above k β 0 ≡ true

@@ -1,31 +1,28 @@
 -- Laws of the inverse steps: how large each of them is, and the answer by the tests that decide it.
 -- Assumes nothing.
-use mathlib.Core.Path.{_≡_, refl, sym, ap, ap₂, _∙_, subst}
-use mathlib.Core.Bool.{true, false, _&&_}
-use mathlib.Core.List.{[], _∷_}
+use mathlib.Core.Path.{_≡_, refl, ap₂, _∙_, subst}
+use mathlib.Core.Bool.{true, false}
 use Prim.Native.Nat.{ℕ, zero, suc, _+_, _*_, _<_, _≤_}
 use native.Mathlib.Nat.{le-refl, le-trans}
 use native.Mathlib.Omega.{arith}
-use lib.Dec.{lit<, lit≤}
+use lib.Dec.{lit<}
 use lib.IntN.{ℤ, pos, negℤ, natAbs, _+ℤ_, _-ℤ_, _*ℤ_}
 use lib.Signed.{_≤ℤ_}
 use Rattle.proof_kit.proofs.Laws.{natAbs-parts, parts--, one-part}
 use Rattle.proof_kit.proofs.Size.{abs-mul, abs-mul-le, abs-add-le, abs-sub-le, square-abs}
-use Rattle.proof_kit.proofs.Order.{order, pos-abs, pos-≤, pos-≤ℤ, ≤ℤ-trans}
+use Rattle.proof_kit.proofs.Order.{order, pos-abs, pos-≤ℤ}
 use Rattle.integers.specs.Near.{near, nearest}
-use Rattle.integers.specs.Root.{root}
 use Rattle.integers.proofs.Rounding.{near-at-most, near-pos}
 use Rattle.integers.proofs.Squares.{root-most}
 use Rattle.sine_table.specs.Table.{unit}
 use Rattle.projection.specs.declared.constants.Constants.{Constants}
 use Rattle.projection.specs.declared.parameters.Parameters.{Parameters}
-use Rattle.projection.specs.declared.inverse.GeodeticAnswer.{GeodeticAnswer}
 use Rattle.projection.specs.declared.inverse.GeodeticAnswer.the-variants.{Position, Refused}
 use Rattle.projection.specs.ParameterSet.{within, setRefusal}
 use Rattle.projection.specs.Derived.{U, constantsOf}
 use Rattle.projection.specs.ForwardSteps.{Turned, H, near-enough}
 use Rattle.projection.specs.InverseSteps.{dropOf, G, up, level, zOf, fOf, pointOf, Sized, positionOf, at-origin, on-map, X, Y, K, found, unprojected, on-plane, inversePoint, inverseOf}
-use Rattle.projection.proofs.AcceptedSet.{Between, both, within-size}
+use Rattle.projection.proofs.AcceptedSet.{both, within-size}
 use Rattle.projection.proofs.ConstantsLaws.{Sound}
 
 some : 0 < unit

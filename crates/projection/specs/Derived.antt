@@ -1,6 +1,5 @@
 -- Document 01, "Parameter set and its constants": the constants of an accepted set, in the paper's order and names.
 -- Under a root and below a fraction's line stands a number that is positive for every accepted set: `natAbs` reads it as a natural number.
-use Prim.Native.Nat.{ℕ}
 use mathlib.Core.Bool.{cond}
 use lib.IntN.{ℤ, pos, natAbs, _+ℤ_, _-ℤ_, _*ℤ_}
 use Rattle.integers.specs.Near.{near}

@@ -1,14 +1,13 @@
 -- Document 01, "Inverse steps" and "Refusal numbers", in centimetres and milliarcseconds.
 use Prim.Native.Nat.{ℕ, zero, suc, _-_, _*_, _≤_}
 use mathlib.Core.Bool.{Bool, true, false, _&&_, cond}
-use lib.IntN.{ℤ, pos, negsuc, negℤ, natAbs, _+ℤ_, _-ℤ_, _*ℤ_}
+use lib.IntN.{ℤ, pos, negℤ, natAbs, _+ℤ_, _-ℤ_, _*ℤ_}
 use lib.Signed.{leZ, ltZ}
 use Rattle.integers.specs.Near.{near, signed}
 use Rattle.integers.specs.Root.{root}
 use Rattle.sine_table.specs.Table.{unit}
 use Rattle.trig.specs.Sine.{half-turn, full-turn}
 use Rattle.trig.specs.Angle.{angle}
-use Rattle.projection.specs.declared.latitude.Geodetic.{Geodetic}
 use Rattle.projection.specs.declared.latitude.Authalic.{Authalic}
 use Rattle.projection.specs.declared.latitude.AuthalicSeries.{AuthalicSeries}
 use Rattle.projection.specs.declared.parameters.Parameters.{Parameters}

@@ -4,7 +4,6 @@ use Prim.Native.Nat.{ℕ}
 use mathlib.Core.Bool.{Bool, true, false, _||_, _&&_}
 use lib.IntN.{ℤ, pos, negℤ}
 use lib.Signed.{ltZ, leZ}
-use Rattle.projection.specs.declared.latitude.Geodetic.{Geodetic}
 use Rattle.projection.specs.declared.parameters.Parameters.{Parameters}
 
 -- "low to high", both counted

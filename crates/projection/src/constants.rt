@@ -12,10 +12,10 @@ ghost use mathlib.Core.Path.{_≡_};
 ghost use mathlib.Core.Bool.{true};
 ghost use Prim.Native.Nat.{_≤_};
 ghost use lib.IntN.{natAbs};
-ghost use Rattle.sine_table.specs.Table.{IsTable, unit};
+ghost use Rattle.sine_table.specs.Table.{IsTable};
 ghost use Rattle.trig.specs.Sine.{right-angle};
 ghost use Rattle.projection.specs.ParameterSet.{accepted-lat0, setRefusal};
-ghost use Rattle.projection.specs.Derived.{U, to-mas, J, seriesOf, C0, m, D, constantsOf};
+ghost use Rattle.projection.specs.Derived.{to-mas, J, seriesOf, C0, m, D, constantsOf};
 ghost use Rattle.projection.specs.Derived.{e4 as e4Of, e6 as e6Of};
 
 // In document 01's names: S0, C0 in billionths; RD, RN in cm.

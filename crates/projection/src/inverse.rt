@@ -19,7 +19,7 @@ use integers::signed;
 use trig::angle;
 ghost use mathlib.Core.Path.{_≡_};
 ghost use Prim.Native.Nat.{_≤_, _*_};
-ghost use lib.IntN.{ℤ, pos, natAbs, _+ℤ_, _*ℤ_};
+ghost use lib.IntN.{pos, natAbs};
 ghost use lib.Signed.{_≤ℤ_};
 ghost use Rattle.sine_table.specs.Table.{IsTable};
 ghost use Rattle.trig.specs.Sine.{half-turn};

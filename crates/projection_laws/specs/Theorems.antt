@@ -3,18 +3,17 @@ use Prim.Native.Nat.{ℕ, _≤_}
 use mathlib.Core.Path.{_≡_}
 use mathlib.Core.Bool.{true}
 use mathlib.Core.Logic.{_⊎_}
-use lib.Dec.{eqb}
 use lib.IntN.{ℤ, pos, negℤ, natAbs, _+ℤ_, _-ℤ_, _*ℤ_}
 use lib.Signed.{_≤ℤ_, _<ℤ_}
 use Rattle.projection.specs.declared.latitude.Geodetic.{Geodetic}
 use Rattle.projection.specs.declared.parameters.Parameters.{Parameters}
 use Rattle.projection.specs.declared.forward.PlaneAnswer.the-variants.{Plane, Refused}
 use Rattle.projection.specs.declared.inverse.GeodeticAnswer.the-variants.{Position, Refused as NotFound}
-use Rattle.projection.specs.ParameterSet.{unless, polar, accepted-e2, setRefusal, etrsLaea}
+use Rattle.projection.specs.ParameterSet.{polar, accepted-e2, setRefusal, etrsLaea}
 use Rattle.projection.specs.Latitude.{betaMas}
 use Rattle.projection.specs.Derived.{seriesOf, RD, constantsOf}
-use Rattle.projection.specs.ForwardSteps.{near-enough, nearness, on-globe, forwardOf}
-use Rattle.projection.specs.InverseSteps.{G, K, at-origin, on-map, on-plane, inverseOf}
+use Rattle.projection.specs.ForwardSteps.{forwardOf}
+use Rattle.projection.specs.InverseSteps.{on-map, inverseOf}
 use Rattle.projection.specs.Answers.{Told, accepted, refused, plane-told, geodetic-told}
 
 -- what a position and a plane point are told, with the set p

@@ -1,9 +1,9 @@
 -- The laws of sine and cosine, for every integer angle: what the other crates know of them. Nothing above this file looks into the table or between its minutes.
 -- Assumes nothing.
-use mathlib.Core.Path.{_≡_, refl, sym, ap, ap₂, _∙_, subst}
+use mathlib.Core.Path.{_≡_, refl, sym, ap, _∙_}
 use mathlib.Core.List.{[], _∷_}
 use Prim.Native.Nat.{ℕ, zero, suc, _+_, _-_, _*_, _<_, _≤_}
-use native.Mathlib.Nat.{le-refl, le-trans}
+use native.Mathlib.Nat.{le-trans}
 use native.Mathlib.Numerals.{add-one}
 use native.Mathlib.Omega.{arith}
 use lib.Signed.{_≤ℤ_}
@@ -11,10 +11,10 @@ use lib.IntN.{ℤ, pos, negsuc, negℤ, natAbs, _+ℤ_, _-ℤ_, _*ℤ_, +ℤ-idr
 use Rattle.proof_kit.proofs.Ring.{ring, quote}
 use Rattle.proof_kit.proofs.Order.{pos-≤ℤ, le-by}
 use Rattle.proof_kit.proofs.Size.{within, abs-neg, abs-via, abs-sub-sym}
-use Rattle.sine_table.specs.Table.{unit, entry}
+use Rattle.sine_table.specs.Table.{unit}
 use Rattle.sine_table.proofs.Laws.{entry-59, entry-300}
-use Rattle.trig.specs.Sine.{right-angle, half-turn, full-turn, first-quarter, sine, cosine}
-use Rattle.trig.proofs.Quarter.{NearCircle, quarter-mono, quarter-step, quarter-slope, quarter-circle, quarter-at-most, quarter-minute, quarter-zero, quarter-right}
+use Rattle.trig.specs.Sine.{right-angle, half-turn, first-quarter, sine, cosine}
+use Rattle.trig.proofs.Quarter.{quarter-mono, quarter-step, quarter-slope, quarter-circle, quarter-at-most, quarter-minute, quarter-zero, quarter-right}
 use Rattle.trig.proofs.Symmetry.{sine-first, cosine-first, sine-upper}
 pub use Rattle.trig.proofs.Symmetry.{sine-odd, sine-supplement, sine-half-turn, sine-full-turn, sine-quarter-turn, cosine-quarter-turn, cosine-even, cosine-complement}
 use Rattle.trig.proofs.Turns.{bounded}

@@ -3,7 +3,7 @@
 use mathlib.Core.Path.{_≡_, refl, sym, ap, ap₂, _∙_, subst₂}
 use mathlib.Core.Bool.{Bool, true, false, cond}
 use Prim.Native.Nat.{ℕ, zero, suc, _+_, _-_, _*_, _/_, _%_, _<_, _≤_}
-use native.Mathlib.Nat.{add-zero, add-suc, le-refl, le-trans, le-of-lt, mul-le-mul, mul-le-mul-left, div-add-mod', mod-lt, eq-or-lt-of-le}
+use native.Mathlib.Nat.{le-refl, le-trans, le-of-lt, mul-le-mul, mul-le-mul-left, div-add-mod', mod-lt, eq-or-lt-of-le}
 use native.Mathlib.Omega.{arith}
 use mathlib.Core.Logic.{_⊎_, inl, inr}
 use lib.Dec.{eqb, lit<, lit≤}

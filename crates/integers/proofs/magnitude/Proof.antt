@@ -1,15 +1,8 @@
 -- `integers::magnitude` meets its contract. A negative n is −(a + 1); the code works out a, which fits an i64, and adds 1 as a u64.
 -- Assumes nothing.
-use borrow.Author.Needs.{needs}
-use mathlib.Core.Path.{_≡_, sym, ap, subst}
-use Prim.Native.Nat.{ℕ, suc, _+_}
-use native.Mathlib.Numerals.{add-one}
+use mathlib.Core.Path.{ap}
 use native.Mathlib.Omega.{arith}
-use lib.IntN.{ℤ, natAbs, _-ℤ_, _+ℤ_, pos}
-use lib.Signed.{nonNeg, ltZ}
-use lib.Dec.{T}
-use mir.Syntax.{w64}
-use mir.Val.{SFits, Fits}
+use lib.IntN.{natAbs}
 use Rattle.integers.proofs.Signs.{Negative, negative, raised-fits, turned-fits, flipped-is, one-more, not-below, size-fits}
 use Rattle.integers.proofs.magnitude.Statement.{statement}
 use Rattle.integers.proofs.magnitude.Tie as tie

@@ -1,13 +1,12 @@
 -- `integers::root` meets its contract. The loop's invariant: n is below the square of r + 1, which with the test that fails at the exit is the contract,
 -- and r is below 2^32, which keeps its square within 64 bits. The measure is r. Assumes nothing.
-use mathlib.Core.Path.{_≡_, sym, ap, _∙_, subst}
+use mathlib.Core.Path.{_≡_, sym, _∙_, subst}
 use Prim.Native.Nat.{ℕ, _+_, _-_, _*_, _/_, _%_, _^_, _≤_, _<_}
 use native.Mathlib.Nat.{le-trans, lt-of-lt-of-le, lt-of-le-of-lt}
 use native.Mathlib.Omega.{arith}
 use lib.Dec.{lit<, lit≤}
 use lib.Pow.{pow-mono, pow-add, pow-pos, shl-exact}
 use lib.Count.{leadingZeros, leading-le, leading-length}
-use Rattle.integers.specs.Root.{root}
 use Rattle.integers.proofs.Squares.{root-is, square-mono, positive, quotient-below, newton-above, newton-below}
 use Rattle.integers.proofs.root.Statement.{statement}
 use Rattle.integers.proofs.root.Tie as tie

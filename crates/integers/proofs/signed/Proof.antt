@@ -1,6 +1,5 @@
 -- `integers::signed` meets its contract. Assumes nothing.
 use borrow.Author.Needs.{needs}
-use mathlib.Core.Path.{_≡_, _∙_}
 use mir.Syntax.{w64}
 use mir.Facts.{toZ-pos}
 use Rattle.integers.proofs.Signs.{negated-fits, negated-is}

@@ -1,6 +1,6 @@
 -- `trig::angle` meets its contract. Assumes nothing.
 use borrow.Author.Needs.{needs}
-use mathlib.Core.Path.{_≡_, sym, _∙_}
+use mathlib.Core.Path.{sym, _∙_}
 use lib.Dec.{lit≤}
 use Rattle.trig.proofs.Angles.{under-zero, angle-none, angle-some}
 use Rattle.trig.proofs.angle.Statement.{statement}

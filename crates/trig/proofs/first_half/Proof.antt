@@ -1,6 +1,6 @@
 -- `trig::first_half` meets its contract. Assumes nothing.
 use borrow.Author.Needs.{needs}
-use mathlib.Core.Path.{_≡_, sym, _∙_}
+use mathlib.Core.Path.{sym, _∙_}
 use Rattle.trig.proofs.Symmetry.{half-low, half-high}
 use Rattle.trig.proofs.first_half.Statement.{statement}
 use Rattle.trig.proofs.first_half.Tie as tie

@@ -1,9 +1,7 @@
 -- `trig::minute_sine` meets its contract: the lent table holds the entry of each minute. Assumes nothing.
 use borrow.Author.Needs.{needs}
-use mathlib.Core.Path.{_≡_}
 use native.Mathlib.Omega.{arith}
-use lib.ListN.{getD}
-use Rattle.sine_table.specs.Table.{IsTable, entry}
+use Rattle.sine_table.specs.Table.{IsTable}
 use Rattle.sine_table.proofs.Laws.{entry-at-most}
 use Rattle.trig.proofs.minute_sine.Statement.{statement}
 use Rattle.trig.proofs.minute_sine.Tie as tie

@@ -1,7 +1,7 @@
 -- `trig::sine` meets its contract: the sign of the angle, turned past 180°, and a size from 0 to 180°. Assumes nothing.
 use borrow.Author.Needs.{needs}
-use mathlib.Core.Path.{_≡_, refl, sym, ap, ap₂, _∙_, subst}
-use mathlib.Core.Bool.{Bool, true, false, not}
+use mathlib.Core.Path.{_≡_, sym, ap, _∙_, subst}
+use mathlib.Core.Bool.{Bool, not}
 use Prim.Native.Nat.{ℕ, suc, _-_, _%_, _<_, _≤_}
 use native.Mathlib.Omega.{arith}
 use lib.Dec.{leb·suc-zero}
@@ -11,7 +11,7 @@ use mir.Syntax.{w64}
 use mir.Val.{toZ, ofZ}
 use mir.Facts.{toZ-ofZ}
 use Rattle.integers.specs.Near.{signed}
-use Rattle.trig.specs.Sine.{half-turn, full-turn, first-half, one-turn, sine}
+use Rattle.trig.specs.Sine.{half-turn, full-turn, first-half, sine}
 use Rattle.trig.proofs.Symmetry.{turn-low, turn-high, half-at-most}
 use Rattle.trig.proofs.sine.Statement.{statement}
 use Rattle.trig.proofs.sine.Tie as tie

@@ -1,7 +1,7 @@
 -- `forward::direction_of` meets its contract: each call gives the paper's next quantity, and every one is at most 2 units in size. Assumes nothing.
 use borrow.Author.Needs.{needs}
-use mathlib.Core.Path.{_≡_, sym, ap, ap₂, _∙_, subst}
-use Prim.Native.Nat.{ℕ, _≤_, _<_}
+use mathlib.Core.Path.{_≡_, ap, ap₂, _∙_}
+use Prim.Native.Nat.{ℕ, _≤_}
 use native.Mathlib.Nat.{le-trans}
 use native.Mathlib.Omega.{arith}
 use lib.Dec.{lit<, lit≤}
@@ -11,7 +11,7 @@ use mir.Val.{toZ, ofZ}
 use Rattle.proof_kit.proofs.Range.{code, fits, read, kept}
 use Rattle.integers.specs.Near.{near}
 use Rattle.sine_table.specs.Table.{unit}
-use Rattle.trig.specs.Sine.{right-angle, full-turn, sine, cosine}
+use Rattle.trig.specs.Sine.{right-angle, sine, cosine}
 use Rattle.trig.proofs.Interface.{sine-size, cosine-size}
 use Rattle.projection.specs.declared.latitude.Authalic.{Authalic}
 use Rattle.projection.specs.Latitude.{betaMas}

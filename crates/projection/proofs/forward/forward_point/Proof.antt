@@ -1,29 +1,26 @@
 -- `forward::forward_point` meets its contract: each return follows from the tests that led there. Assumes nothing.
 use borrow.Author.Needs.{needs}
 use borrow.Author.Tests.{not-true, not-false}
-use mathlib.Core.Path.{_≡_, refl, sym, ap, ap₂, _∙_, subst}
-use mathlib.Core.Bool.{Bool, true, false}
-use Prim.Native.Nat.{ℕ, _≤_, _<_}
+use mathlib.Core.Path.{_≡_, sym, ap, ap₂, _∙_}
+use mathlib.Core.Bool.{true}
+use Prim.Native.Nat.{ℕ, _≤_}
 use native.Mathlib.Nat.{le-trans}
-use native.Mathlib.Omega.{arith}
 use lib.Dec.{lit<, lit≤}
 use lib.IntN.{ℤ, pos, natAbs, _+ℤ_, _-ℤ_, _*ℤ_}
-use lib.Signed.{_≤ℤ_, ltZ, leZ}
+use lib.Signed.{_≤ℤ_, ltZ}
 use mir.Syntax.{w64}
-use mir.Val.{toZ, ofZ, SFits}
+use mir.Val.{toZ, ofZ}
 use mir.Facts.{toZ-ofZ}
 use Rattle.proof_kit.proofs.Range.{code, fits, read, read-size, kept, returned}
 use Rattle.proof_kit.proofs.Size.{as-size}
 use Rattle.proof_kit.proofs.Order.{≤ℤ-trans, pos-≤ℤ, ltZ-true, ltZ-false, lt-leZ, le-leZ}
 use Rattle.integers.specs.Near.{near}
-use Rattle.trig.specs.Sine.{right-angle, half-turn, full-turn}
-use Rattle.projection.specs.declared.parameters.Parameters.{Parameters}
+use Rattle.trig.specs.Sine.{right-angle, half-turn}
 use Rattle.projection.specs.declared.constants.Constants.{Constants}
 use Rattle.projection.specs.declared.forward.Direction.{Direction}
-use Rattle.projection.specs.declared.forward.PlaneAnswer.{PlaneAnswer}
-use Rattle.projection.specs.declared.forward.PlaneAnswer.the-variants.{Plane, Refused}
+use Rattle.projection.specs.declared.forward.PlaneAnswer.the-variants.{Plane}
 use Rattle.projection.specs.Derived.{constantsOf}
-use Rattle.projection.specs.ForwardSteps.{H, u, w, G, dE, dN, directionOf, nearness, near-enough, on-globe, pick, forwardPoint}
+use Rattle.projection.specs.ForwardSteps.{H, u, w, dE, dN, directionOf, nearness, near-enough, on-globe}
 use Rattle.projection.proofs.AcceptedSet.{Accepted, accepted}
 use Rattle.projection.proofs.ConstantsLaws.{Sound, sound, sound-as}
 use Rattle.projection.proofs.ForwardLaws.{u-size, w-size, G-size, H-least, H-most, globe-sizes, forward-off-globe, forward-too-far, forward-plane}

@@ -1,9 +1,6 @@
 -- `forward::scale` meets its contract. Assumes nothing.
 use borrow.Author.Needs.{needs}
-use mathlib.Core.Path.{_≡_, ap, _∙_}
-use Prim.Native.Nat.{ℕ}
-use lib.IntN.{ℤ, pos, natAbs, _*ℤ_}
-use lib.Signed.{_≤ℤ_}
+use mathlib.Core.Path.{ap, _∙_}
 use Rattle.proof_kit.proofs.Range.{code, fits, read-abs, as-sign, unsigned}
 use Rattle.proof_kit.proofs.Size.{as-size}
 use Rattle.proof_kit.proofs.Certificate.{nonneg-*, nonneg-num}

@@ -1,16 +1,16 @@
 -- `inverse::inverse_point` meets its contract. Assumes nothing.
 use borrow.Author.Needs.{needs}
 use borrow.Author.Tests.{not-true, not-false}
-use mathlib.Core.Path.{_≡_, sym, ap, ap₂, _∙_}
+use mathlib.Core.Path.{_≡_, sym, ap₂, _∙_}
 use mathlib.Core.Bool.{true}
-use Prim.Native.Nat.{ℕ, _≤_}
-use lib.IntN.{ℤ, natAbs, _-ℤ_}
+use Prim.Native.Nat.{_≤_}
+use lib.IntN.{ℤ, natAbs}
 use mir.Facts.{toZ-ofZ}
 use Rattle.proof_kit.proofs.Range.{code, fits, read, read-size}
 use Rattle.proof_kit.proofs.Size.{as-size}
 use Rattle.projection.specs.declared.parameters.Parameters.{Parameters}
 use Rattle.projection.specs.declared.constants.Constants.{Constants}
-use Rattle.projection.specs.InverseSteps.{on-plane, unprojected, inversePoint}
+use Rattle.projection.specs.InverseSteps.{on-plane, unprojected}
 use Rattle.projection.proofs.AcceptedSet.{Accepted, accepted}
 use Rattle.projection.proofs.InverseLaws.{inverse-off-plane, inverse-on-plane, plane-sizes}
 use Rattle.projection.proofs.inverse.inverse_point.Statement.{statement}

@@ -2,7 +2,7 @@
 use borrow.Author.Needs.{needs}
 use mathlib.Core.Path.{ap₂, _∙_}
 use mathlib.Core.Bool.{_&&_}
-use lib.IntN.{ℤ, pos, negℤ}
+use lib.IntN.{ℤ, pos}
 use mir.Facts.{toZ-ofZ}
 use Rattle.projection.specs.ParameterSet.{within, same}
 use Rattle.projection.specs.InverseSteps.{at-origin}

@@ -1,16 +1,13 @@
 -- `inverse::position` meets its contract: lon0 and Δ are each at most 180° in size. Assumes nothing.
 use borrow.Author.Needs.{needs}
-use mathlib.Core.Path.{_≡_, sym, ap, ap₂, _∙_}
-use Prim.Native.Nat.{ℕ, _*_, _≤_}
-use lib.Dec.{lit<}
-use lib.IntN.{ℤ, pos, natAbs, _+ℤ_}
+use mathlib.Core.Path.{ap, ap₂, _∙_}
+use Prim.Native.Nat.{_≤_}
+use lib.IntN.{ℤ, natAbs, _+ℤ_}
 use Rattle.proof_kit.proofs.Range.{code, fits, read, read-size, returned}
 use Rattle.proof_kit.proofs.Size.{as-size}
-use Rattle.trig.specs.Sine.{right-angle, half-turn}
-use Rattle.projection.specs.declared.latitude.Authalic.{Authalic}
 use Rattle.projection.specs.declared.inverse.GeodeticAnswer.the-variants.{Position}
 use Rattle.projection.specs.Latitude.{geodetic}
-use Rattle.projection.specs.InverseSteps.{latitudeOf, longitudeOf, wrapped, positionOf}
+use Rattle.projection.specs.InverseSteps.{wrapped, positionOf}
 use Rattle.projection.proofs.AngleLaws.{latitude-size, longitude-size}
 use Rattle.projection.proofs.inverse.position.Statement.{statement}
 use Rattle.projection.proofs.inverse.position.Tie as tie

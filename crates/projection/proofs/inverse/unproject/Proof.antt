@@ -1,28 +1,23 @@
 -- `inverse::unproject` meets its contract: each return follows from the tests that led there, and on the map X and Y are at most 2 units. Assumes nothing.
 use borrow.Author.Needs.{needs}
 use borrow.Author.Tests.{not-true, not-false}
-use mathlib.Core.Path.{_≡_, refl, sym, ap, ap₂, _∙_, subst}
-use mathlib.Core.Bool.{Bool, true, false}
-use Prim.Native.Nat.{ℕ, _*_, _<_, _≤_}
+use mathlib.Core.Path.{_≡_, sym, ap, ap₂, _∙_, subst}
+use mathlib.Core.Bool.{true, false}
+use Prim.Native.Nat.{_≤_}
 use native.Mathlib.Nat.{le-trans}
-use native.Mathlib.Omega.{arith}
 use lib.Dec.{lit<, lit≤}
-use lib.IntN.{ℤ, pos, negℤ, natAbs, _+ℤ_, _-ℤ_, _*ℤ_}
-use lib.Signed.{_≤ℤ_, ltZ, leZ}
-use mir.Syntax.{w64}
-use mir.Val.{toZ, ofZ}
+use lib.IntN.{ℤ, pos, natAbs, _-ℤ_, _*ℤ_}
+use lib.Signed.{_≤ℤ_, ltZ}
 use mir.Facts.{toZ-ofZ}
 use Rattle.proof_kit.proofs.Range.{code, fits, read, kept}
-use Rattle.proof_kit.proofs.Order.{order, ltZ-true, ltZ-false, lt-leZ, le-leZ, pos-≤ℤ, pos-≤}
+use Rattle.proof_kit.proofs.Order.{ltZ-true, ltZ-false, lt-leZ, le-leZ, pos-≤ℤ}
 use Rattle.integers.specs.Near.{near}
 use Rattle.trig.specs.Sine.{half-turn}
-use Rattle.projection.specs.declared.constants.Constants.{Constants}
-use Rattle.projection.specs.declared.inverse.SpherePoint.{SpherePoint}
-use Rattle.projection.specs.declared.inverse.GeodeticAnswer.the-variants.{Position, Refused}
+use Rattle.projection.specs.declared.inverse.GeodeticAnswer.the-variants.{Position}
 use Rattle.projection.specs.Derived.{U}
 use Rattle.projection.specs.ForwardSteps.{near-enough}
-use Rattle.projection.specs.InverseSteps.{dropOf, G, pointOf, Sized, positionOf, at-origin, on-map, X, Y, K, found, unprojected}
-use Rattle.projection.proofs.AcceptedSet.{Accepted, accepted, Between}
+use Rattle.projection.specs.InverseSteps.{dropOf, G, Sized, positionOf, at-origin, on-map, X, Y, K, found}
+use Rattle.projection.proofs.AcceptedSet.{accepted, Between}
 use Rattle.projection.proofs.ConstantsLaws.{Sound, sound-as}
 use Rattle.projection.proofs.Calls.{back, back-is}
 use Rattle.projection.proofs.InverseLaws.{K-natural, K-near, drop-size, point-sized, OnMap, map-sizes, unprojected-origin, unprojected-off-map, unprojected-too-far, unprojected-position}

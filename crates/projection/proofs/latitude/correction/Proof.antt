@@ -1,10 +1,9 @@
 -- `latitude::correction` meets its contract: the coefficients and the sines are small, so every product and sum is within 64 bits. Assumes nothing.
 use borrow.Author.Needs.{needs}
-use mathlib.Core.Path.{_≡_, sym, ap, ap₂, _∙_, subst}
-use Prim.Native.Nat.{ℕ, _+_, _*_, _≤_, _<_, _^_}
-use native.Mathlib.Omega.{arith}
+use mathlib.Core.Path.{_≡_, ap, _∙_}
+use Prim.Native.Nat.{_≤_}
 use lib.Dec.{lit<}
-use lib.IntN.{ℤ, pos, natAbs, _+ℤ_, _-ℤ_, _*ℤ_}
+use lib.IntN.{ℤ, pos, natAbs, _*ℤ_}
 use Rattle.proof_kit.proofs.Range.{code, fits, read, read-room, returned}
 use Rattle.proof_kit.proofs.Size.{as-size}
 use Rattle.integers.specs.Near.{near}

@@ -1,9 +1,9 @@
 -- `latitude::is_not_above` meets its contract. Assumes nothing.
 use borrow.Author.Needs.{needs}
 use mathlib.Core.Path.{_≡_, ap, ap₂, _∙_}
-use Prim.Native.Nat.{ℕ, _≤_}
+use Prim.Native.Nat.{_≤_}
 use lib.Dec.{lit<}
-use lib.IntN.{ℤ, pos, natAbs, _-ℤ_}
+use lib.IntN.{ℤ, natAbs}
 use lib.Signed.{leZ}
 use Rattle.proof_kit.proofs.Range.{code, fits, kept}
 use mir.Syntax.{w64}

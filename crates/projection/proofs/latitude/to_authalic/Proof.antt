@@ -1,6 +1,6 @@
 -- `latitude::to_authalic` meets its contract. Assumes nothing.
 use mathlib.Core.Path.{_≡_, sym, ap, ap₂, _∙_, subst}
-use Prim.Native.Nat.{ℕ, _≤_}
+use Prim.Native.Nat.{_≤_}
 use lib.Dec.{lit<}
 use lib.IntN.{ℤ, natAbs, _-ℤ_}
 use mir.Syntax.{w64}
@@ -8,7 +8,6 @@ use mir.Val.{toZ, ofZ}
 use Rattle.proof_kit.proofs.Range.{code, fits, read, kept}
 use Rattle.trig.specs.Sine.{right-angle}
 use Rattle.projection.specs.declared.latitude.AuthalicSeries.{AuthalicSeries}
-use Rattle.projection.specs.declared.latitude.Authalic.{Authalic}
 use Rattle.projection.specs.Latitude.{Small, coefficients, rounded, betaMas}
 use Rattle.projection.proofs.AuthalicLaws.{rounded-size}
 use Rattle.projection.proofs.latitude.to_authalic.Statement.{statement}

@@ -1,11 +1,10 @@
 -- `latitude::to_geodetic` meets its contract. Assumes nothing.
-use mathlib.Core.Path.{_≡_, ap, _∙_}
-use Prim.Native.Nat.{ℕ, _≤_}
+use mathlib.Core.Path.{ap, _∙_}
+use Prim.Native.Nat.{_≤_}
 use native.Mathlib.Omega.{arith}
 use lib.Dec.{lit≤}
-use lib.IntN.{ℤ, pos, _-ℤ_}
-use Rattle.proof_kit.proofs.Range.{code, fits, read}
-use Rattle.integers.specs.Greatest.{greatest}
+use lib.IntN.{ℤ}
+use Rattle.proof_kit.proofs.Range.{code, fits}
 use Rattle.integers.proofs.Greatest.{greatest-le}
 use Rattle.trig.specs.Sine.{half-turn}
 use Rattle.projection.specs.Latitude.{from-south-pole, not-above, geodetic}

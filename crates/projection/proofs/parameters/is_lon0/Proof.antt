@@ -2,7 +2,7 @@
 use mathlib.Core.Path.{_≡_, sym, ap, _∙_}
 use mathlib.Core.Bool.{Bool, _&&_}
 use lib.IntN.{ℤ, pos, negℤ}
-use lib.Signed.{leZ, ltZ}
+use lib.Signed.{leZ}
 use mir.Facts.{toZ-ofZ}
 use Rattle.proof_kit.proofs.Order.{leZ-true, leZ-false, le-ltZ, lt-ltZ}
 use Rattle.projection.specs.ParameterSet.{accepted-lon0}

@@ -1,7 +1,6 @@
 -- `parameters::is_within` meets its contract. Assumes nothing.
 use mathlib.Core.Path.{_≡_, sym, ap, ap₂, _∙_}
 use mathlib.Core.Bool.{Bool, _&&_}
-use lib.IntN.{ℤ}
 use lib.Signed.{leZ, ltZ}
 use mir.Facts.{toZ-ofZ}
 use Rattle.proof_kit.proofs.Order.{ltZ-true, ltZ-false, lt-leZ, le-leZ}

@@ -1,6 +1,5 @@
 -- `latitude::Authalic::sine` meets its contract. Assumes nothing.
 use mathlib.Core.Path.{ap, _∙_}
-use native.Mathlib.Omega.{arith}
 use lib.Dec.{lit<}
 use Rattle.proof_kit.proofs.Range.{kept, returned}
 use Rattle.trig.specs.Sine.{sine as sineOf}

@@ -1,6 +1,6 @@
 -- `Parameters::refusal` meets its contract: each test is that of its field, read back as it was passed. Assumes nothing.
 use borrow.Author.Needs.{needs}
-use mathlib.Core.Path.{_≡_, ap, _∙_}
+use mathlib.Core.Path.{ap, _∙_}
 use lib.IntN.{pos, negℤ}
 use mir.Syntax.{w64}
 use mir.Val.{SFits}
