@@ -27,47 +27,26 @@ search-at t = and 1 search-kinds.ps (is 1 search-kinds.ps μ-search t) search′
 abbrev search-below : ℕ → In 1 search-kinds.ps
 search-below t = and 1 search-kinds.ps (falls 1 search-kinds.ps _<_ μ-search t) search′.Pre
 
-search-returns : (t : ℕ) → search-lts.Need-returns (
-  is-not-above-reads.Asked,
-  is-not-above-reads.Learnt,
-  search-below t,
-  search′.Post,
-) (search-at t) search′.Post
+-- what the two calls inside are asked and promise
+abbrev claims : ℕ → search-lts.Claims
+claims t = (is-not-above-reads.Asked, is-not-above-reads.Learnt, search-below t, search′.Post)
+
+search-returns : (t : ℕ) → search-lts.Need-returns (claims t) (search-at t) search′.Post
 search-returns t c =
     one-left (not-above (c .before .args .k) (c .before .args .beta)) (c .before .args .low) (c .before .args .high) (c .if1 .taken) (c .before .pre .1 .5)
 
-search-sub-mid : (t : ℕ) → search-lts.Need-sub-mid (
-  is-not-above-reads.Asked,
-  is-not-above-reads.Learnt,
-  search-below t,
-  search′.Post,
-) (search-at t) search′.Post
+search-sub-mid : (t : ℕ) → search-lts.Need-sub-mid (claims t) (search-at t) search′.Post
 search-sub-mid t c = c .before .pre .1 .3
 
-search-sub-mid-2 : (t : ℕ) → search-lts.Need-sub-mid-2 (
-  is-not-above-reads.Asked,
-  is-not-above-reads.Learnt,
-  search-below t,
-  search′.Post,
-) (search-at t) search′.Post
+search-sub-mid-2 : (t : ℕ) → search-lts.Need-sub-mid-2 (claims t) (search-at t) search′.Post
 search-sub-mid-2 t c = omega arith
 
-search-is-not-above-requires : (t : ℕ) → search-lts.Need-is-not-above-requires (
-  is-not-above-reads.Asked,
-  is-not-above-reads.Learnt,
-  search-below t,
-  search′.Post,
-) (search-at t) search′.Post
+search-is-not-above-requires : (t : ℕ) → search-lts.Need-is-not-above-requires (claims t) (search-at t) search′.Post
 search-is-not-above-requires t c κs =
     let given = c .before .pre .1 in
     (given .0, given .1, given .2, le-trans (omega arith) (given .4))
 
-search-search-requires : (t : ℕ) → search-lts.Need-search-requires (
-  is-not-above-reads.Asked,
-  is-not-above-reads.Learnt,
-  search-below t,
-  search′.Post,
-) (search-at t) search′.Post
+search-search-requires : (t : ℕ) → search-lts.Need-search-requires (claims t) (search-at t) search′.Post
 search-search-requires t c κs =
     let start = c .before .before .before in
     let given = start .pre .1 in
@@ -76,20 +55,10 @@ search-search-requires t c κs =
       (given .0, given .1, given .2, omega arith, given .4, sym (c .before .is-not-above .ensures) ∙ c .if2 .taken),
     )
 
-search-sub-search : (t : ℕ) → search-lts.Need-sub-search (
-  is-not-above-reads.Asked,
-  is-not-above-reads.Learnt,
-  search-below t,
-  search′.Post,
-) (search-at t) search′.Post
+search-sub-search : (t : ℕ) → search-lts.Need-sub-search (claims t) (search-at t) search′.Post
 search-sub-search t c = omega (arith, c .before .before .before .pre .1 .3, c .before .before .if1 .left)
 
-search-search-requires-2 : (t : ℕ) → search-lts.Need-search-requires-2 (
-  is-not-above-reads.Asked,
-  is-not-above-reads.Learnt,
-  search-below t,
-  search′.Post,
-) (search-at t) search′.Post
+search-search-requires-2 : (t : ℕ) → search-lts.Need-search-requires-2 (claims t) (search-at t) search′.Post
 search-search-requires-2 t c κs =
     let start = c .before .before .before in
     let given = start .pre .1 in
@@ -98,20 +67,10 @@ search-search-requires-2 t c κs =
       (given .0, given .1, given .2, omega (arith, given .3, differ), omega (arith, given .4), given .5),
     )
 
-search-returns-2 : (t : ℕ) → search-lts.Need-returns-2 (
-  is-not-above-reads.Asked,
-  is-not-above-reads.Learnt,
-  search-below t,
-  search′.Post,
-) (search-at t) search′.Post
+search-returns-2 : (t : ℕ) → search-lts.Need-returns-2 (claims t) (search-at t) search′.Post
 search-returns-2 t c = c .search .ensures
 
-search-returns-3 : (t : ℕ) → search-lts.Need-returns-3 (
-  is-not-above-reads.Asked,
-  is-not-above-reads.Learnt,
-  search-below t,
-  search′.Post,
-) (search-at t) search′.Post
+search-returns-3 : (t : ℕ) → search-lts.Need-returns-3 (claims t) (search-at t) search′.Post
 search-returns-3 t c =
     let start = c .before .before .before .before in
     let given = start .pre .1 in
@@ -120,12 +79,7 @@ search-returns-3 t c =
     (sym (c .before .before .is-not-above .ensures) ∙ c .before .if2 .left)
 
 pub +search-spec : {M : Type 1} → statement M
-+search-spec = close μ-search λ t. search-lts.spec (
-  is-not-above-reads.Asked,
-  is-not-above-reads.Learnt,
-  search-below t,
-  search′.Post,
-)
++search-spec = close μ-search λ t. search-lts.spec (claims t)
     (search-at t)
     search′.Post
     (search-returns t)
