@@ -53,7 +53,7 @@ angle-size p q = at (eqb p 0 && eqb q 0)
     at false = greatest-le (under p q) right-angle
 
 -- a sign does not change the size
-signed-size : (b : Bool) (n : ℕ) {m : ℕ} → n ≤ m → natAbs (signed b n) ≤ m
+pub signed-size : (b : Bool) (n : ℕ) {m : ℕ} → n ≤ m → natAbs (signed b n) ≤ m
 signed-size true n h = rw (abs-neg (pos n)) h
 signed-size false n h = h
 

@@ -47,7 +47,7 @@ pub fn scale(g: i64) -> u64
 }
 
 // The direction of a latitude and a longitude difference d.
-fn direction_of(t: &[u32; 5401], k: Constants, lat: Geodetic, d: i64) -> Direction
+pub fn direction_of(t: &[u32; 5401], k: Constants, lat: Geodetic, d: i64) -> Direction
     requires { ⌜ IsTable (now t) × Small (k .series) × Turned k × (natAbs (lat .0) ≤ right-angle) × (natAbs d ≤ full-turn) ⌝ }
     ensures { λ r. ⌜ r ≡ directionOf k (lat .0) d ⌝ }
 {

@@ -51,13 +51,3 @@ pub fn distance(a: i64, b: i64) -> i64
 {
     magnitude(a - b)
 }
-
-// The sign of x, a number of any size: -1, 0 or 1.
-pub fn sign(x: i64) -> i64
-    ensures { λ r. ⌜ r *ℤ pos (natAbs x) ≡ x ⌝ }
-{
-    if x == 0 {
-        return 0;
-    }
-    if x < 0 { -1 } else { 1 }
-}
