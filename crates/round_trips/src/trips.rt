@@ -21,11 +21,10 @@ ghost use mathlib.Core.Path.{_≡_};
 ghost use Prim.Native.Nat.{_≤_};
 ghost use lib.IntN.{natAbs};
 ghost use Rattle.sine_table.specs.Table.{IsTable};
-ghost use Rattle.trig.specs.Sine.{right-angle, half-turn, full-turn};
+ghost use Rattle.trig.specs.Sine.{right-angle, half-turn};
 ghost use Rattle.projection.specs.ParameterSet.{setRefusal};
 ghost use Rattle.projection.specs.Latitude.{Small};
 ghost use Rattle.projection.specs.Derived.{constantsOf};
-ghost use Rattle.projection.specs.ForwardSteps.{Turned};
 
 // The position found beside the one put in.
 fn compared(

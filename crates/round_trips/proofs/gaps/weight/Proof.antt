@@ -1,13 +1,12 @@
 -- `gaps::weight` meets its contract: β is within a right angle, and no cosine is above U. Assumes nothing.
 use borrow.Author.Needs.{needs}
-use mathlib.Core.Path.{_≡_, ap, _∙_}
-use Prim.Native.Nat.{_≤_}
+use mathlib.Core.Path.{ap, _∙_}
 use lib.Dec.{lit<}
 use lib.IntN.{ℤ, natAbs}
 use mir.Syntax.{w64}
 use mir.Val.{toZ, ofZ}
 use Rattle.proof_kit.proofs.Range.{kept}
-use Rattle.trig.specs.Sine.{right-angle, cosine}
+use Rattle.trig.specs.Sine.{cosine}
 use Rattle.trig.proofs.Interface.{cosine-size}
 use Rattle.projection.specs.declared.latitude.Authalic.{Authalic}
 use Rattle.projection.proofs.AuthalicLaws.{beta-size}

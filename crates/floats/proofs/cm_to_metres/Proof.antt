@@ -1,0 +1,17 @@
+-- `floats::cm_to_metres` meets its contract: the divisor's bit pattern is the unit as a double. Assumes nothing.
+use borrow.Author.Needs.{needs}
+use lib.Ieee.{ofBits, ofInt}
+use Rattle.floats.specs.Units.{metre}
+use Rattle.floats.proofs.Quotient.{out-is}
+use Rattle.floats.proofs.cm_to_metres.Statement.{statement}
+use Rattle.floats.proofs.cm_to_metres.Tie as tie
+
+nearest-i64-to-f64-requires : tie.Need-nearest-i64-to-f64-requires
+nearest-i64-to-f64-requires c κs = search needs
+
+returns : tie.Need-returns
+unfolding ofBits ofInt
+returns c = out-is metre (c .before .fits .n) (c .nearest-i64-to-f64 .ensures)
+
+pub cm-to-metres-spec : {M : Type 1} → statement M
+cm-to-metres-spec = tie.close (tie.spec nearest-i64-to-f64-requires returns)

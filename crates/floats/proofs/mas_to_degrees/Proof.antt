@@ -1,0 +1,17 @@
+-- `floats::mas_to_degrees` meets its contract: the divisor's bit pattern is the unit as a double. Assumes nothing.
+use borrow.Author.Needs.{needs}
+use lib.Ieee.{ofBits, ofInt}
+use Rattle.floats.specs.Units.{degree}
+use Rattle.floats.proofs.Quotient.{out-is}
+use Rattle.floats.proofs.mas_to_degrees.Statement.{statement}
+use Rattle.floats.proofs.mas_to_degrees.Tie as tie
+
+nearest-i64-to-f64-requires : tie.Need-nearest-i64-to-f64-requires
+nearest-i64-to-f64-requires c κs = search needs
+
+returns : tie.Need-returns
+unfolding ofBits ofInt
+returns c = out-is degree (c .before .fits .n) (c .nearest-i64-to-f64 .ensures)
+
+pub mas-to-degrees-spec : {M : Type 1} → statement M
+mas-to-degrees-spec = tie.close (tie.spec nearest-i64-to-f64-requires returns)

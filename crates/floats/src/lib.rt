@@ -1,0 +1,108 @@
+// Degrees and metres, document 01: doubles to whole units and back, and the tests of a coordinate.
+// Whole units are milliarcseconds (mas) and centimetres (cm).
+ghost use mathlib.Core.Path.{_≡_};
+ghost use mathlib.Core.Bool.{true};
+ghost use Prim.Native.Nat.{_≤_};
+ghost use Rattle.floats.specs.Units.{degree, metre, wholeOf, floatOf};
+ghost use Rattle.floats.specs.Limits.{isFinite, within, latitudeLimit, longitudeLimit, planeLimit};
+use integers::nearest;
+use integers::signed;
+
+// x is neither NaN nor infinite.
+pub fn is_finite(x: f64) -> bool
+    ensures { λ r. ⌜ r ≡ isFinite x ⌝ }
+{
+    let infinity = 1.0 / 0.0;
+    if -infinity < x { x < infinity } else { false }
+}
+
+// x is finite, and from −limit to limit.
+fn is_within(limit: f64, x: f64) -> bool
+    ensures { λ r. ⌜ r ≡ within limit x ⌝ }
+{
+    if x < -limit {
+        return false;
+    }
+    if limit < x {
+        return false;
+    }
+    is_finite(x)
+}
+
+// x is a latitude in degrees.
+pub fn is_latitude(x: f64) -> bool
+    ensures { λ r. ⌜ r ≡ within latitudeLimit x ⌝ }
+{
+    is_within(90.0, x)
+}
+
+// x is a longitude in degrees.
+pub fn is_longitude(x: f64) -> bool
+    ensures { λ r. ⌜ r ≡ within longitudeLimit x ⌝ }
+{
+    is_within(180.0, x)
+}
+
+// x is an easting or a northing in metres.
+pub fn is_plane(x: f64) -> bool
+    ensures { λ r. ⌜ r ≡ within planeLimit x ⌝ }
+{
+    is_within(50000000.0, x)
+}
+
+// The weight of the sign in a double's bit pattern.
+const SIGN: u64 = 0x8000_0000_0000_0000;
+
+// That of the exponent's field, and of the leading digit: 2^52.
+const FIELD: u64 = 0x10_0000_0000_0000;
+
+// What the product is cut by: 2^24.
+const CUT: u64 = 0x100_0000;
+
+// near(x · unit). In size x is digits · 2^(field − 1075), and below 2^−23 the answer is 0. The
+// product of the digits with the unit can pass 64 bits, so its last 24 bits are cut off: they lie
+// below the half that decides.
+fn whole_units(unit: u64, x: f64) -> i64
+    requires { ⌜ (unit ≤ degree) × (within planeLimit x ≡ true) ⌝ }
+    ensures { λ r. ⌜ r ≡ wholeOf unit x ⌝ }
+{
+    let bits = f64::to_bits(x);
+    let field = bits % SIGN / FIELD;
+    if field < 1000 {
+        return 0;
+    }
+    let digits = bits % FIELD + FIELD;
+    let product = digits / CUT * unit + digits % CUT * unit / CUT;
+    let size = nearest(product, 1u64 << (1051 - field));
+    signed(bits >= SIGN, size)
+}
+
+// Degrees to mas: near(x · 3,600,000).
+pub fn degrees_to_mas(x: f64) -> i64
+    requires { ⌜ within longitudeLimit x ≡ true ⌝ }
+    ensures { λ r. ⌜ r ≡ wholeOf degree x ⌝ }
+{
+    whole_units(3600000, x)
+}
+
+// Metres to cm: near(x · 100).
+pub fn metres_to_cm(x: f64) -> i64
+    requires { ⌜ within planeLimit x ≡ true ⌝ }
+    ensures { λ r. ⌜ r ≡ wholeOf metre x ⌝ }
+{
+    whole_units(100, x)
+}
+
+// Mas to degrees: the double nearest to n, divided once.
+pub fn mas_to_degrees(n: i64) -> f64
+    ensures { λ r. ⌜ r ≡ floatOf degree n ⌝ }
+{
+    std::num::nearest_i64_to_f64(n) / 3600000.0
+}
+
+// Cm to metres: the double nearest to n, divided once.
+pub fn cm_to_metres(n: i64) -> f64
+    ensures { λ r. ⌜ r ≡ floatOf metre n ⌝ }
+{
+    std::num::nearest_i64_to_f64(n) / 100.0
+}
