@@ -15,7 +15,7 @@ Falls test n = (a b : ℕ) → a ≤ b → b ≤ n → test b ≡ true → test 
 not-both : {b : Bool} → b ≡ true → b ≡ false → ⊥
 not-both p q = let z : _≡_ {A = Bool} true false = sym p ∙ q in subst (λ (b : Bool). cond b ℕ ⊥) z 0
 
-not-true : (b : Bool) → (b ≡ true → ⊥) → b ≡ false
+pub not-true : (b : Bool) → (b ≡ true → ⊥) → b ≡ false
 not-true true f = absurd (f refl)
 not-true false f = refl
 

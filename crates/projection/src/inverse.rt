@@ -163,7 +163,7 @@ fn unproject(t: &[u32; 5401], p: Parameters, c: Constants, de: i64, dn: i64) -> 
 }
 
 // Whether easting and northing are within ±50,000,000 m.
-fn is_on_plane(easting: i64, northing: i64) -> bool
+pub fn is_on_plane(easting: i64, northing: i64) -> bool
     ensures { λ r. ⌜ r ≡ on-plane easting northing ⌝ }
 {
     are_within(

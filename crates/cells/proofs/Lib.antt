@@ -1,0 +1,3 @@
+pub mod Sides
+pub mod CellLaws
+pub mod Witnesses

@@ -1,0 +1,42 @@
+-- Document 01, "Cells": the numbers of the cell that a position lies in. Sides and coordinates are in cm.
+use Prim.Native.Nat.{ℕ, _/_, _<_, _≤_}
+use mathlib.Core.Bool.{Bool, cond, _||_}
+use lib.IntN.{ℤ, pos, natAbs, _-ℤ_, _*ℤ_}
+use lib.Signed.{ltZ}
+use Rattle.integers.specs.Near.{signed}
+use Rattle.projection.specs.ParameterSet.{same, unless}
+use Rattle.projection.specs.InverseSteps.{on-plane}
+use Rattle.projection.specs.Answers.{Told, accepted, refused, told}
+use Rattle.cells.specs.declared.CellAnswer.{CellAnswer}
+use Rattle.cells.specs.declared.CellAnswer.the-variants.{Cell, Refused}
+
+-- "a side of 10,000, 100,000 or 1,000,000 cm"
+unfoldable pub accepted-side : ℤ → Bool
+accepted-side side = same side (pos 10_000) || same side (pos 100_000) || same side (pos 1_000_000)
+
+-- "divided by the side, the fraction dropped": the size is divided and the sign put back, so −1 cm lies in cell 0.
+unfoldable pub cellNumber : ℕ → ℤ → ℤ
+cellNumber side coordinate = signed (ltZ coordinate (pos 0)) (natAbs coordinate / side)
+
+-- A coordinate lies in the cell of a number where that many sides reach no farther from 0 than it, and less than one side is left to it.
+pub record InCell (side : ℕ) (number coordinate : ℤ) : Type 0 where
+  pub reached : natAbs (number *ℤ pos side) ≤ natAbs coordinate
+  pub remainder : natAbs (coordinate -ℤ number *ℤ pos side) < side
+
+-- "Another side, or a position beyond ±5,000,000,000 cm: refused 3."
+unfoldable pub cellOf : ℤ → ℤ → ℤ → CellAnswer
+cellOf side E N =
+    cond (accepted-side side)
+    (cond (on-plane E N) (Cell (cellNumber (natAbs side) E) (cellNumber (natAbs side) N)) (Refused 3))
+    (Refused 3)
+
+-- the cell's numbers east and north, or the refusal number
+abbrev pub cell-told : CellAnswer → Told
+cell-told (Cell east north) = accepted east north
+cell-told (Refused number) = refused number
+
+unfoldable pub cellRefusal : ℤ → ℤ → ℤ → ℕ
+cellRefusal side E N = unless (accepted-side side) 3 (unless (on-plane E N) 3 0)
+
+unfoldable pub cellTold : ℤ → ℤ → ℤ → Told
+cellTold side E N = told (cellRefusal side E N) (cellNumber (natAbs side) E) (cellNumber (natAbs side) N)
