@@ -1,0 +1,5 @@
+mod Tests
+pub mod PairLaws
+pub mod MarkLaws
+pub mod ListLaws
+pub mod ListedLaws

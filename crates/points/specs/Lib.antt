@@ -1,0 +1,3 @@
+pub mod Points
+pub mod Told
+pub mod Lists

@@ -1,0 +1,105 @@
+-- Document 01, "Refusal numbers": lists of pairs, forward and back.
+use Prim.Native.Nat.{ℕ, zero, suc}
+use mathlib.Core.Path.{_≡_}
+use mathlib.Core.Bool.{Bool, true, false, _&&_}
+use mathlib.Core.List.{List, [], _∷_, map}
+use lib.Dec.{eqb, leb}
+use lib.Ieee.{Float}
+use lib.ListN.{length}
+use Rattle.projection.specs.declared.parameters.Parameters.{Parameters}
+use Rattle.projection.specs.ParameterSet.{unless, setRefusal}
+use Rattle.projection.specs.Answers.{firstOf}
+use Rattle.points.specs.declared.pairs.GeodeticPair.{GeodeticPair}
+use Rattle.points.specs.declared.pairs.PlanePair.{PlanePair}
+use Rattle.points.specs.declared.pairs.Marked.{Marked}
+use Rattle.points.specs.declared.lists.ListAnswer.{ListAnswer}
+use Rattle.points.specs.declared.lists.ListAnswer.the-variants.{Count, Refused}
+use Rattle.points.specs.Points.{forwardPair, inversePair}
+use Rattle.points.specs.Told.{plane-marked, geodetic-marked}
+
+abbrev pub degrees : Float → Float → GeodeticPair
+degrees latitude longitude = record { latitude = latitude; longitude = longitude }
+
+abbrev pub metres : Float → Float → PlanePair
+metres first second = record { first = first; second = second }
+
+-- a point of a list: its answer and mark 0, or 0.0, 0.0 and its number; forward or back
+unfoldable pub forwardRow : Parameters → Float → Float → Marked
+forwardRow p latitude longitude = plane-marked (forwardPair p (degrees latitude longitude))
+
+unfoldable pub inverseRow : Parameters → Float → Float → Marked
+inverseRow p first second = geodetic-marked (inversePair p (metres first second))
+
+abbrev pub rowOf : Bool → Parameters → Float → Float → Marked
+rowOf true = forwardRow
+rowOf false = inverseRow
+
+-- the points of two lists, at each index
+abbrev pub rows : (Float → Float → Marked) → List Float → List Float → List Marked
+rows row [] ys = []
+rows row (x ∷ xs) [] = []
+rows row (x ∷ xs) (y ∷ ys) = row x y ∷ rows row xs ys
+
+abbrev pub firsts : List Marked → List Float
+firsts = map (λ (r : Marked). r .first)
+
+abbrev pub seconds : List Marked → List Float
+seconds = map (λ (r : Marked). r .second)
+
+abbrev pub marks : List Marked → List ℕ
+marks = map (λ (r : Marked). r .mark)
+
+-- 5: "lent lists of unequal length"; 6: "lists longer than 4,096"
+unfoldable pub lengthRefusal : ℕ → ℕ → ℕ → ℕ → ℕ → ℕ
+lengthRefusal a b c d e =
+    unless (eqb b a && (eqb c a && (eqb d a && eqb e a))) 5 (unless (leb a 4096) 6 0)
+
+-- "Order: lists 5, 6, 1", for two inputs, two outputs and the marks
+unfoldable pub listRefusal : Parameters → List Float → List Float → List Float → List Float → List ℕ → ℕ
+listRefusal p xs ys first second mark =
+    firstOf (lengthRefusal (length xs) (length ys) (length first) (length second) (length mark)) (setRefusal p)
+
+-- "the count of marks that are 0"
+abbrev pub zeros : List ℕ → ℕ
+zeros [] = 0
+zeros (zero ∷ ms) = suc (zeros ms)
+zeros (suc m ∷ ms) = zeros ms
+
+-- "Calls refused by 5, 6 or 1 write nothing": a lent list after the call, from what a call without refusal writes and what was there
+abbrev pub written : {A : Type 0} → ℕ → List A → List A → List A
+written zero new old = new
+written (suc n) new old = old
+
+-- "and return the number, no count"
+abbrev pub listAnswer : ℕ → ℕ → ListAnswer
+listAnswer zero count = Count count
+listAnswer (suc n) count = Refused (suc n)
+
+-- what the answer tells: its refusal number, 0 where it has none, and the count, 0 where it has none
+pub record Counted : Type 0 where
+  pub refusal : ℕ
+  pub count : ℕ
+
+abbrev pub list-told : ListAnswer → Counted
+list-told (Count count) = record { refusal = 0; count = count }
+list-told (Refused number) = record { refusal = number; count = 0 }
+
+abbrev pub counted : ℕ → ℕ → Counted
+counted zero count = record { refusal = 0; count = count }
+counted (suc n) count = record { refusal = suc n; count = 0 }
+
+-- The lists lent for writing, before and after a call with this refusal on these points, and its answer.
+pub record Listed (refusal : ℕ) (points : List Marked) (first first′ second second′ : List Float) (mark mark′ : List ℕ) (answer : ListAnswer) : Type 0 where
+  pub firsts-are : first′ ≡ written refusal (firsts points) first
+  pub seconds-are : second′ ≡ written refusal (seconds points) second
+  pub marks-are : mark′ ≡ written refusal (marks points) mark
+  pub answer-is : answer ≡ listAnswer refusal (zeros mark′)
+  pub answer-tells : list-told answer ≡ counted refusal (zeros mark′)
+
+-- a call that works out each point by `row`
+abbrev pub ListCall :
+    Parameters →
+    (Float → Float → Marked) →
+    (xs ys first first′ second second′ : List Float) (mark mark′ : List ℕ) → ListAnswer → Type 0
+ListCall p row xs ys first first′ second second′ mark mark′ answer =
+    Listed (listRefusal p xs ys first second mark) (rows row xs ys) first first′ second second′ mark mark′ answer

@@ -1,0 +1,91 @@
+// One point: degrees to metres and back.
+use crate::pairs::GeodeticPair;
+use crate::pairs::GeodeticPairAnswer;
+use crate::pairs::PlanePair;
+use crate::pairs::PlanePairAnswer;
+use crate::pairs::are_finite;
+use crate::pairs::in_degrees;
+use crate::pairs::in_metres;
+use crate::pairs::is_on_globe;
+use crate::pairs::is_on_plane;
+use floats::degrees_to_mas;
+use floats::metres_to_cm;
+use projection::constants::Constants;
+use projection::constants::constants_of;
+use projection::forward::forward_point;
+use projection::inverse::inverse_point;
+use projection::latitude::Geodetic;
+use projection::parameters::Parameters;
+ghost use mathlib.Core.Path.{_≡_};
+ghost use Rattle.sine_table.specs.Table.{IsTable};
+ghost use Rattle.projection.specs.ParameterSet.{setRefusal};
+ghost use Rattle.projection.specs.Derived.{constantsOf};
+ghost use Rattle.points.specs.Points.{forwardPair, inversePair, forwardDegrees, inverseMetres};
+ghost use Rattle.points.specs.Told.{plane-marked, geodetic-marked, forwardMarked, inverseMarked};
+
+// A pair with an accepted set and its constants.
+pub fn forward_pair(
+    t: &[u32; 5401],
+    p: Parameters,
+    k: Constants,
+    at: GeodeticPair,
+) -> PlanePairAnswer
+    requires { ⌜ IsTable (now t) × (setRefusal p ≡ 0) × (k ≡ constantsOf p) ⌝ }
+    ensures { λ r. ⌜ r ≡ forwardPair p at ⌝ }
+{
+    let lat = at.latitude;
+    let lon = at.longitude;
+    if !are_finite(lat, lon) {
+        return PlanePairAnswer::Refused(2);
+    }
+    if !is_on_globe(at) {
+        return PlanePairAnswer::Refused(3);
+    }
+    let phi = Geodetic(degrees_to_mas(lat));
+    in_metres(forward_point(t, p, k, phi, degrees_to_mas(lon)))
+}
+
+// A pair with an accepted set and its constants.
+pub fn inverse_pair(
+    t: &[u32; 5401],
+    p: Parameters,
+    k: Constants,
+    at: PlanePair,
+) -> GeodeticPairAnswer
+    requires { ⌜ IsTable (now t) × (setRefusal p ≡ 0) × (k ≡ constantsOf p) ⌝ }
+    ensures { λ r. ⌜ r ≡ inversePair p at ⌝ }
+{
+    let first = at.first;
+    let second = at.second;
+    if !are_finite(first, second) {
+        return GeodeticPairAnswer::Refused(2);
+    }
+    if !is_on_plane(at) {
+        return GeodeticPairAnswer::Refused(3);
+    }
+    in_degrees(inverse_point(t, p, k, metres_to_cm(first), metres_to_cm(second)))
+}
+
+// Any set, any pair of doubles: the customer's call from degrees to metres.
+pub fn forward_degrees(p: Parameters, at: GeodeticPair) -> PlanePairAnswer
+    ensures { λ r. ⌜ (r ≡ forwardDegrees p at) × (plane-marked r ≡ forwardMarked p at) ⌝ }
+{
+    let refusal = p.refusal();
+    if refusal != 0 {
+        return PlanePairAnswer::Refused(refusal);
+    }
+    let t = sine_table::table();
+    forward_pair(&t, p, constants_of(&t, p), at)
+}
+
+// Any set, any pair of doubles: the customer's call from metres to degrees.
+pub fn inverse_metres(p: Parameters, at: PlanePair) -> GeodeticPairAnswer
+    ensures { λ r. ⌜ (r ≡ inverseMetres p at) × (geodetic-marked r ≡ inverseMarked p at) ⌝ }
+{
+    let refusal = p.refusal();
+    if refusal != 0 {
+        return GeodeticPairAnswer::Refused(refusal);
+    }
+    let t = sine_table::table();
+    inverse_pair(&t, p, constants_of(&t, p), at)
+}

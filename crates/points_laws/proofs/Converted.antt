@@ -1,0 +1,147 @@
+-- An accepted answer is the whole-unit answer converted; so its floats are finite, and taken back they are its whole numbers.
+-- Assumes nothing.
+use mathlib.Core.Path.{_≡_, refl, sym, ap, ap₂, _∙_}
+use mathlib.Core.Bool.{Bool, true, false, cond, false≢true}
+use Prim.Native.Nat.{ℕ, zero, suc, _≤_, _<_}
+use native.Mathlib.Nat.{le-trans}
+use lib.Dec.{lit<, lit≤}
+use lib.IntN.{ℤ, pos, natAbs}
+use lib.Signed.{_≤ℤ_, _<ℤ_}
+use lib.Ieee.{fin}
+use Rattle.proof_kit.proofs.Order.{<ℤ-≤ℤ, abs-between}
+use Rattle.floats.specs.Units.{metre}
+use Rattle.floats.proofs.Coordinates.{Coordinate, latitude, longitude, float-finite, float-back}
+use Rattle.projection.specs.declared.latitude.Geodetic.{Geodetic}
+use Rattle.projection.specs.declared.parameters.Parameters.{Parameters}
+use Rattle.projection.specs.declared.forward.PlaneAnswer.{PlaneAnswer}
+use Rattle.projection.specs.declared.forward.PlaneAnswer.the-variants.{Plane, Refused as PlaneRefused}
+use Rattle.projection.specs.declared.inverse.GeodeticAnswer.{GeodeticAnswer}
+use Rattle.projection.specs.declared.inverse.GeodeticAnswer.the-variants.{Position, Refused as GeodeticRefused}
+use Rattle.projection.specs.ParameterSet.{setRefusal}
+use Rattle.projection.specs.ForwardSteps.{forwardOf}
+use Rattle.projection.specs.InverseSteps.{inverseOf}
+use Rattle.projection_laws.proofs.Ranges.{position-in-range}
+use Rattle.points.specs.declared.pairs.GeodeticPair.{GeodeticPair}
+use Rattle.points.specs.declared.pairs.PlanePair.{PlanePair}
+use Rattle.points.specs.declared.pairs.PlanePairAnswer.{PlanePairAnswer}
+use Rattle.points.specs.declared.pairs.PlanePairAnswer.the-variants.{Metres, Refused}
+use Rattle.points.specs.declared.pairs.GeodeticPairAnswer.{GeodeticPairAnswer}
+use Rattle.points.specs.declared.pairs.GeodeticPairAnswer.the-variants.{Degrees, Refused as NotFound}
+use Rattle.points.specs.Points.{areFinite, onGlobe, onPlane, latitudeMas, longitudeMas, eastingCm, northingCm, planePair, geodeticPair, inMetres, inDegrees, after, forwardPair, inversePair, forwardDegrees, inverseMetres}
+use Rattle.points_laws.specs.Theorems.{ForwardConverted, InverseConverted, ForwardFinite, InverseFinite, ForwardBack, InverseBack}
+use Rattle.points_laws.proofs.Sizes.{plane-size}
+
+-- a call whose answer is a pair has passed every test
+module _ {A : Type 0} (is-pair : A → Bool) (refusedBy : ℕ → A) (no-pair : (n : ℕ) → is-pair (refusedBy n) ≡ false) {pair : A} (a-pair : is-pair pair ≡ true) where
+  clash : (n : ℕ) → refusedBy n ≡ pair → ⊥
+  clash n e = false≢true (sym (no-pair n) ∙ ap is-pair e ∙ a-pair)
+
+  last-answer : (n : ℕ) (f g : Bool) (answer : A) → after refusedBy n (cond f (cond g answer (refusedBy 3)) (refusedBy 2)) ≡ pair → answer ≡ pair
+  last-answer zero true true answer e = e
+  last-answer zero true false answer e = absurd (clash 3 e)
+  last-answer zero false g answer e = absurd (clash 2 e)
+  last-answer (suc n) f g answer e = absurd (clash (suc n) e)
+
+-- ---- forward
+
+abbrev is-metres : PlanePairAnswer → Bool
+is-metres (Metres pair) = true
+is-metres (Refused n) = false
+
+abbrev metres-of : PlanePairAnswer → PlanePair
+metres-of (Metres pair) = pair
+metres-of (Refused n) = planePair (pos 0) (pos 0)
+
+pub forward-converted : ForwardConverted
+unfolding forwardDegrees forwardPair
+forward-converted p at pair e = sym (last-answer is-metres Refused (λ n. refl) refl (setRefusal p) (areFinite (at .latitude) (at .longitude)) (onGlobe at) _ e)
+
+-- the whole numbers of an answer in metres
+record PlaneWhole (answer : PlaneAnswer) (pair : PlanePair) : Type 0 where
+  pub E : ℤ
+  pub N : ℤ
+  pub whole : answer ≡ Plane E N
+  pub floats : pair ≡ planePair E N
+
+plane-whole : (answer : PlaneAnswer) (pair : PlanePair) → Metres pair ≡ inMetres answer → PlaneWhole answer pair
+plane-whole (Plane E N) pair e = record { E = E; N = N; whole = refl; floats = ap metres-of e }
+plane-whole (PlaneRefused n) pair e = absurd (false≢true (sym (ap is-metres e)))
+
+-- eastings and northings reach further than the limit of those put in
+far : Coordinate metre (fin false 390_625 (pos 10)) 40_000_000_000
+far = record { digits = 390_625; twos = 10; limit-is = refl; most-is = refl; unit-some = lit< tt; unit-small = lit≤ tt; most-small = lit< tt }
+
+module _ (p : Parameters) (at : GeodeticPair) (pair : PlanePair) (e : forwardDegrees p at ≡ Metres pair) where
+  metres-whole : PlaneWhole (forwardOf p (latitudeMas at) (longitudeMas at)) pair
+  metres-whole = plane-whole (forwardOf p (latitudeMas at) (longitudeMas at)) pair (forward-converted p at pair e)
+
+  easting-size : natAbs (metres-whole .E) ≤ 40_000_000_000
+  easting-size = le-trans (plane-size p (latitudeMas at) (longitudeMas at) (metres-whole .E) (metres-whole .N) (metres-whole .whole) .0) (lit≤ tt)
+
+  northing-size : natAbs (metres-whole .N) ≤ 40_000_000_000
+  northing-size = le-trans (plane-size p (latitudeMas at) (longitudeMas at) (metres-whole .E) (metres-whole .N) (metres-whole .whole) .1) (lit≤ tt)
+
+pub forward-finite : ForwardFinite
+forward-finite p at pair e =
+    rw (metres-whole p at pair e .floats)
+    (float-finite far (metres-whole p at pair e .E) (easting-size p at pair e), float-finite far (metres-whole p at pair e .N) (northing-size p at pair e))
+
+pub forward-back : ForwardBack
+unfolding eastingCm northingCm
+forward-back p at pair e =
+    let x = metres-whole p at pair e in
+    x .whole
+    ∙ ap₂ Plane
+    (sym (ap eastingCm (x .floats) ∙ float-back far (x .E) (easting-size p at pair e)))
+    (sym (ap northingCm (x .floats) ∙ float-back far (x .N) (northing-size p at pair e)))
+
+-- ---- back
+
+abbrev is-degrees : GeodeticPairAnswer → Bool
+is-degrees (Degrees pair) = true
+is-degrees (NotFound n) = false
+
+abbrev degrees-of : GeodeticPairAnswer → GeodeticPair
+degrees-of (Degrees pair) = pair
+degrees-of (NotFound n) = geodeticPair (pos 0) (pos 0)
+
+pub inverse-converted : InverseConverted
+unfolding inverseMetres inversePair
+inverse-converted p at pair e = sym (last-answer is-degrees NotFound (λ n. refl) refl (setRefusal p) (areFinite (at .first) (at .second)) (onPlane at) _ e)
+
+-- the whole numbers of an answer in degrees
+record GeodeticWhole (answer : GeodeticAnswer) (pair : GeodeticPair) : Type 0 where
+  pub φ : Geodetic
+  pub lon : ℤ
+  pub whole : answer ≡ Position φ lon
+  pub floats : pair ≡ geodeticPair (φ .0) lon
+
+geodetic-whole : (answer : GeodeticAnswer) (pair : GeodeticPair) → Degrees pair ≡ inDegrees answer → GeodeticWhole answer pair
+geodetic-whole (Position φ lon) pair e = record { φ = φ; lon = lon; whole = refl; floats = ap degrees-of e }
+geodetic-whole (GeodeticRefused n) pair e = absurd (false≢true (sym (ap is-degrees e)))
+
+module _ (p : Parameters) (at : PlanePair) (pair : GeodeticPair) (e : inverseMetres p at ≡ Degrees pair) where
+  degrees-whole : GeodeticWhole (inverseOf p (eastingCm at) (northingCm at)) pair
+  degrees-whole = geodetic-whole (inverseOf p (eastingCm at) (northingCm at)) pair (inverse-converted p at pair e)
+
+  latitude-size : natAbs (degrees-whole .φ .0) ≤ 324_000_000
+  latitude-size = position-in-range p (eastingCm at) (northingCm at) (degrees-whole .φ) (degrees-whole .lon) (degrees-whole .whole) .0
+
+  longitude-size : natAbs (degrees-whole .lon) ≤ 648_000_000
+  longitude-size =
+      let r = position-in-range p (eastingCm at) (northingCm at) (degrees-whole .φ) (degrees-whole .lon) (degrees-whole .whole) in
+      abs-between (degrees-whole .lon) (<ℤ-≤ℤ (r .1)) (r .2)
+
+pub inverse-finite : InverseFinite
+inverse-finite p at pair e =
+    rw (degrees-whole p at pair e .floats)
+    (float-finite latitude (degrees-whole p at pair e .φ .0) (latitude-size p at pair e), float-finite longitude (degrees-whole p at pair e .lon) (longitude-size p at pair e))
+
+pub inverse-back : InverseBack
+unfolding latitudeMas longitudeMas
+inverse-back p at pair e =
+    let x = degrees-whole p at pair e in
+    x .whole
+    ∙ ap₂ (λ (φ lon : ℤ). Position (record { 0 = φ }) lon)
+    (sym (ap (λ (g : GeodeticPair). latitudeMas g .0) (x .floats) ∙ float-back latitude (x .φ .0) (latitude-size p at pair e)))
+    (sym (ap longitudeMas (x .floats) ∙ float-back longitude (x .lon) (longitude-size p at pair e)))

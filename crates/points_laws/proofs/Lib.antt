@@ -1,0 +1,5 @@
+pub mod Sizes
+pub mod Converted
+pub mod Whole
+pub mod Listed
+pub mod Witnesses

@@ -1,0 +1,82 @@
+-- The witnesses: a concrete call for each refusal. The whole-unit witnesses serve refusal 4. Assumes nothing.
+use mathlib.Core.Path.{_≡_, refl, sym, ap, _∙_}
+use mathlib.Core.Bool.{true, false}
+use Prim.Native.Nat.{ℕ}
+use native.Mathlib.Omega.{arith}
+use lib.Dec.{lit≤}
+use lib.IntN.{pos, negℤ}
+use lib.Ieee.{nan, lt, neg}
+use Rattle.floats.specs.Limits.{isFinite, beyond, within}
+use Rattle.projection.specs.declared.forward.PlaneAnswer.{PlaneAnswer}
+use Rattle.projection.specs.declared.forward.PlaneAnswer.the-variants.{Plane, Refused}
+use Rattle.projection.specs.declared.inverse.GeodeticAnswer.{GeodeticAnswer}
+use Rattle.projection.specs.declared.inverse.GeodeticAnswer.the-variants.{Position, Refused as NotFound}
+use Rattle.projection.specs.ParameterSet.{within as within-limits, same, polar, accepted-a, accepted-e2, accepted-lat0, accepted-lon0, accepted-false, firstRefusal, setRefusal, etrsLaea}
+use Rattle.projection.specs.ForwardSteps.{forwardOf}
+use Rattle.projection.specs.InverseSteps.{inverseOf}
+use Rattle.projection.specs.Answers.{Told, plane-told, geodetic-told}
+use Rattle.projection_laws.specs.Theorems.{sizeless}
+use Rattle.projection_laws.proofs.Witnesses.{forward-witnesses as whole-forward, inverse-witnesses as whole-inverse}
+use Rattle.points.specs.Points.{areFinite, onGlobe, onPlane, inMetres, inDegrees}
+use Rattle.points.specs.Told.{zeroFloat, plane-marked, geodetic-marked}
+use Rattle.points.specs.Lists.{degrees, metres, lengthRefusal, listRefusal}
+use Rattle.points.proofs.PairLaws.{forward-not-finite, forward-off-globe, forward-degrees-accepted, forward-degrees-refused, inverse-not-finite, inverse-off-plane, inverse-metres-accepted, inverse-metres-refused}
+use Rattle.points_laws.specs.Theorems.{past-pole, past-plane, ForwardWitnesses, InverseWitnesses, ListWitnesses}
+use Rattle.points_laws.proofs.Whole.{forward-whole, inverse-whole}
+
+-- the two sets, tested
+sets : (setRefusal etrsLaea ≡ 0) × (setRefusal sizeless ≡ 1)
+unfolding setRefusal firstRefusal accepted-a accepted-e2 accepted-lat0 polar same accepted-lon0 accepted-false within-limits
+sets = (refl, refl)
+
+not-none : _≡_ {A = ℕ} 1 0 → ⊥
+not-none e = omega arith
+
+-- the tests of the pairs
+finite-tests : (false ≡ areFinite past-pole nan) × (true ≡ areFinite past-pole zeroFloat) × (false ≡ areFinite past-plane nan) × (true ≡ areFinite past-plane zeroFloat)
+unfolding areFinite isFinite
+finite-tests = (refl, refl, refl, refl)
+
+limit-tests : (false ≡ onGlobe (degrees past-pole zeroFloat)) × (false ≡ onPlane (metres past-plane zeroFloat))
+unfolding onGlobe onPlane within isFinite beyond lt neg
+limit-tests = (refl, refl)
+
+-- the mark of an answer that is converted is the refusal number of the whole-unit answer
+metres-mark : (answer : PlaneAnswer) → plane-marked (inMetres answer) .mark ≡ plane-told answer .refusal
+metres-mark (Plane E N) = refl
+metres-mark (Refused n) = refl
+
+degrees-mark : (answer : GeodeticAnswer) → geodetic-marked (inDegrees answer) .mark ≡ geodetic-told answer .refusal
+degrees-mark (Position φ lon) = refl
+degrees-mark (NotFound n) = refl
+
+pub forward-witnesses : ForwardWitnesses
+forward-witnesses = (
+  sym (forward-degrees-refused sizeless (degrees past-pole nan) 1 not-none (sym (sets .1))),
+  forward-degrees-accepted etrsLaea (degrees past-pole nan) (sets .0) ∙ sym (forward-not-finite etrsLaea (degrees past-pole nan) (finite-tests .0) refl),
+  forward-degrees-accepted etrsLaea (degrees past-pole zeroFloat) (sets .0)
+      ∙ sym (forward-off-globe etrsLaea (degrees past-pole zeroFloat) (finite-tests .1) refl (limit-tests .0) refl),
+  ap (λ r. plane-marked r .mark) (forward-whole etrsLaea (sets .0) (negℤ (pos 187_200_000)) (negℤ (pos 612_000_000)) (lit≤ tt) (lit≤ tt))
+      ∙ metres-mark (forwardOf etrsLaea (record { 0 = negℤ (pos 187_200_000) }) (negℤ (pos 612_000_000)))
+      ∙ ap (λ (t : Told). t .refusal) (whole-forward .3),
+)
+
+pub inverse-witnesses : InverseWitnesses
+inverse-witnesses = (
+  sym (inverse-metres-refused sizeless (metres past-plane nan) 1 not-none (sym (sets .1))),
+  inverse-metres-accepted etrsLaea (metres past-plane nan) (sets .0) ∙ sym (inverse-not-finite etrsLaea (metres past-plane nan) (finite-tests .2) refl),
+  inverse-metres-accepted etrsLaea (metres past-plane zeroFloat) (sets .0)
+      ∙ sym (inverse-off-plane etrsLaea (metres past-plane zeroFloat) (finite-tests .3) refl (limit-tests .1) refl),
+  ap (λ r. geodetic-marked r .mark) (inverse-whole etrsLaea (sets .0) (pos 5_000_000_000) (pos 0) (lit≤ tt) (lit≤ tt))
+      ∙ degrees-mark (inverseOf etrsLaea (pos 5_000_000_000) (pos 0))
+      ∙ ap (λ (t : Told). t .refusal) (whole-inverse .3),
+)
+
+pub list-witnesses : ListWitnesses
+unfolding listRefusal lengthRefusal
+list-witnesses = (
+  refl,
+  refl,
+  sets .1,
+  sets .0,
+)

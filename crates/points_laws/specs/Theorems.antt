@@ -1,0 +1,184 @@
+-- What holds of the single and the list calls, over the definitions that their contracts cite. What `ForwardFinite` states is proved as `forward-finite` in proofs/, and so the others.
+use Prim.Native.Nat.{ℕ, suc, _≤_, _<_}
+use mathlib.Core.Path.{_≡_}
+use mathlib.Core.Bool.{true, false}
+use mathlib.Core.List.{List, []}
+use lib.IntN.{ℤ, pos, negℤ, natAbs}
+use lib.Ieee.{Float, nan, fin}
+use lib.ListN.{length, getD, replicate}
+use Rattle.floats.specs.Limits.{isFinite}
+use Rattle.projection.specs.declared.parameters.Parameters.{Parameters}
+use Rattle.projection.specs.declared.forward.PlaneAnswer.the-variants.{Plane}
+use Rattle.projection.specs.declared.inverse.GeodeticAnswer.the-variants.{Position}
+use Rattle.projection.specs.ParameterSet.{setRefusal, etrsLaea}
+use Rattle.projection.specs.ForwardSteps.{forwardOf}
+use Rattle.projection.specs.InverseSteps.{inverseOf}
+use Rattle.projection_laws.specs.Theorems.{sizeless}
+use Rattle.points.specs.declared.pairs.GeodeticPair.{GeodeticPair}
+use Rattle.points.specs.declared.pairs.PlanePair.{PlanePair}
+use Rattle.points.specs.declared.pairs.Marked.{Marked}
+use Rattle.points.specs.declared.pairs.PlanePairAnswer.the-variants.{Metres, Refused as PlaneRefused}
+use Rattle.points.specs.declared.pairs.GeodeticPairAnswer.the-variants.{Degrees, Refused as NotFound}
+use Rattle.points.specs.declared.lists.ListAnswer.{ListAnswer}
+use Rattle.points.specs.declared.lists.ListAnswer.the-variants.{Count, Refused}
+use Rattle.points.specs.Points.{latitudeMas, longitudeMas, eastingCm, northingCm, planePair, geodeticPair, inMetres, inDegrees, forwardDegrees, inverseMetres}
+use Rattle.points.specs.Told.{zeroFloat, plane-marked, geodetic-marked}
+use Rattle.points.specs.Lists.{degrees, metres, forwardRow, inverseRow, listRefusal, zeros, ListCall}
+
+-- ---- accepted answers of single calls
+
+-- "Each accepted answer equals the whole-unit call's answer converted"
+abbrev pub ForwardConverted : Type 0
+ForwardConverted =
+    (p : Parameters) (at : GeodeticPair) (pair : PlanePair) →
+    forwardDegrees p at ≡ Metres pair →
+    Metres pair ≡ inMetres (forwardOf p (latitudeMas at) (longitudeMas at))
+
+abbrev pub InverseConverted : Type 0
+InverseConverted =
+    (p : Parameters) (at : PlanePair) (pair : GeodeticPair) →
+    inverseMetres p at ≡ Degrees pair →
+    Degrees pair ≡ inDegrees (inverseOf p (eastingCm at) (northingCm at))
+
+-- "and both its floats are finite"
+abbrev pub ForwardFinite : Type 0
+ForwardFinite =
+    (p : Parameters) (at : GeodeticPair) (pair : PlanePair) →
+    forwardDegrees p at ≡ Metres pair →
+    (isFinite (pair .first) ≡ true) × (isFinite (pair .second) ≡ true)
+
+abbrev pub InverseFinite : Type 0
+InverseFinite =
+    (p : Parameters) (at : PlanePair) (pair : GeodeticPair) →
+    inverseMetres p at ≡ Degrees pair →
+    (isFinite (pair .latitude) ≡ true) × (isFinite (pair .longitude) ≡ true)
+
+-- "Taking an answer's floats back gives its whole numbers again."
+abbrev pub ForwardBack : Type 0
+ForwardBack =
+    (p : Parameters) (at : GeodeticPair) (pair : PlanePair) →
+    forwardDegrees p at ≡ Metres pair →
+    forwardOf p (latitudeMas at) (longitudeMas at) ≡ Plane (eastingCm pair) (northingCm pair)
+
+abbrev pub InverseBack : Type 0
+InverseBack =
+    (p : Parameters) (at : PlanePair) (pair : GeodeticPair) →
+    inverseMetres p at ≡ Degrees pair →
+    inverseOf p (eastingCm at) (northingCm at) ≡ Position (latitudeMas pair) (longitudeMas pair)
+
+-- ---- whole numbers put in as floats
+
+-- Within the limits, the floats of whole numbers have the answer of the whole numbers.
+abbrev pub ForwardWhole : Type 0
+ForwardWhole =
+    (p : Parameters) →
+    setRefusal p ≡ 0 →
+    (φ lon : ℤ) →
+    natAbs φ ≤ 324_000_000 →
+    natAbs lon ≤ 648_000_000 →
+    forwardDegrees p (geodeticPair φ lon) ≡ inMetres (forwardOf p (record { 0 = φ }) lon)
+
+abbrev pub InverseWhole : Type 0
+InverseWhole =
+    (p : Parameters) →
+    setRefusal p ≡ 0 →
+    (E N : ℤ) →
+    natAbs E ≤ 5_000_000_000 →
+    natAbs N ≤ 5_000_000_000 →
+    inverseMetres p (planePair E N) ≡ inDegrees (inverseOf p E N)
+
+-- the centre's floats go to the false origin's floats, and back
+abbrev pub CentreForward : Type 0
+CentreForward =
+    (p : Parameters) →
+    setRefusal p ≡ 0 →
+    forwardDegrees p (geodeticPair (p .lat0 .0) (p .lon0)) ≡ Metres (planePair (p .«false_easting») (p .«false_northing»))
+
+abbrev pub CentreInverse : Type 0
+CentreInverse =
+    (p : Parameters) →
+    setRefusal p ≡ 0 →
+    inverseMetres p (planePair (p .«false_easting») (p .«false_northing»)) ≡ Degrees (geodeticPair (p .lat0 .0) (p .lon0))
+
+-- ---- lists
+
+-- what stands at an index of the three lists that a call writes
+abbrev pub rowAt : ℕ → List Float → List Float → List ℕ → Marked
+rowAt k first second mark = record { mark = getD mark k 0; first = getD first k nan; second = getD second k nan }
+
+-- the list call equals the single call at every index
+abbrev pub ForwardListed : Type 0
+ForwardListed =
+    (p : Parameters) (xs ys first first′ second second′ : List Float) (mark mark′ : List ℕ) (answer : ListAnswer) →
+    ListCall p (forwardRow p) xs ys first first′ second second′ mark mark′ answer →
+    listRefusal p xs ys first second mark ≡ 0 →
+    (k : ℕ) →
+    k < length xs →
+    rowAt k first′ second′ mark′ ≡ plane-marked (forwardDegrees p (degrees (getD xs k nan) (getD ys k nan)))
+
+abbrev pub InverseListed : Type 0
+InverseListed =
+    (p : Parameters) (xs ys first first′ second second′ : List Float) (mark mark′ : List ℕ) (answer : ListAnswer) →
+    ListCall p (inverseRow p) xs ys first first′ second second′ mark mark′ answer →
+    listRefusal p xs ys first second mark ≡ 0 →
+    (k : ℕ) →
+    k < length xs →
+    rowAt k first′ second′ mark′ ≡ geodetic-marked (inverseMetres p (metres (getD xs k nan) (getD ys k nan)))
+
+-- such a call answers the count of the marks that are 0, and its lists keep their length
+abbrev pub ListCounted : Type 0
+ListCounted =
+    (p : Parameters) (row : Float → Float → Marked) (xs ys first first′ second second′ : List Float) (mark mark′ : List ℕ) (answer : ListAnswer) →
+    ListCall p row xs ys first first′ second second′ mark mark′ answer →
+    listRefusal p xs ys first second mark ≡ 0 →
+    (answer ≡ Count (zeros mark′))
+    × (length first′ ≡ length xs)
+    × (length second′ ≡ length xs)
+    × (length mark′ ≡ length xs)
+
+-- a call refused by 5, 6 or 1 leaves every lent element as it was and returns the number
+abbrev pub ListRefused : Type 0
+ListRefused =
+    (p : Parameters) (row : Float → Float → Marked) (xs ys first first′ second second′ : List Float) (mark mark′ : List ℕ) (answer : ListAnswer) (n : ℕ) →
+    ListCall p row xs ys first first′ second second′ mark mark′ answer →
+    listRefusal p xs ys first second mark ≡ suc n →
+    (answer ≡ Refused (suc n)) × (first′ ≡ first) × (second′ ≡ second) × (mark′ ≡ mark)
+
+-- ---- witnesses: each refusal at each call that can give it, so that no condition is empty, and each before the next in the order
+
+-- 91, and 50,000,001
+abbrev pub past-pole : Float
+past-pole = fin false 91 (pos 0)
+
+abbrev pub past-plane : Float
+past-plane = fin false 50_000_001 (pos 0)
+
+-- "(91, NaN) is 2"; the point opposite to the centre is refused 4, and what is told of it is its number
+abbrev pub ForwardWitnesses : Type 0
+ForwardWitnesses =
+    (forwardDegrees sizeless (degrees past-pole nan) ≡ PlaneRefused 1)
+    × (forwardDegrees etrsLaea (degrees past-pole nan) ≡ PlaneRefused 2)
+    × (forwardDegrees etrsLaea (degrees past-pole zeroFloat) ≡ PlaneRefused 3)
+    × (plane-marked (forwardDegrees etrsLaea (geodeticPair (negℤ (pos 187_200_000)) (negℤ (pos 612_000_000)))) .mark ≡ 4)
+
+abbrev pub InverseWitnesses : Type 0
+InverseWitnesses =
+    (inverseMetres sizeless (metres past-plane nan) ≡ NotFound 1)
+    × (inverseMetres etrsLaea (metres past-plane nan) ≡ NotFound 2)
+    × (inverseMetres etrsLaea (metres past-plane zeroFloat) ≡ NotFound 3)
+    × (geodetic-marked (inverseMetres etrsLaea (planePair (pos 5_000_000_000) (pos 0))) .mark ≡ 4)
+
+-- lists of 4,097
+abbrev pub long : List Float
+long = replicate 4097 zeroFloat
+
+abbrev pub long-marks : List ℕ
+long-marks = replicate 4097 0
+
+-- 5 before 6, 6 before 1, and "lists of length 0 with a bad set are 1"
+abbrev pub ListWitnesses : Type 0
+ListWitnesses =
+    (listRefusal sizeless long [] long long long-marks ≡ 5)
+    × (listRefusal sizeless long long long long long-marks ≡ 6)
+    × (listRefusal sizeless [] [] [] [] [] ≡ 1)
+    × (listRefusal etrsLaea [] [] [] [] [] ≡ 0)
