@@ -7,6 +7,7 @@ use native.Mathlib.Omega.{arith}
 use lib.IntN.{pos, negsuc}
 use Rattle.integers.specs.Near.{near, nearest}
 use Rattle.integers.proofs.Greatest.{greatest-here}
+use Rattle.floats.proofs.Marked.{degree-256th, degree-minus-256th, metre-8th}
 use Rattle.sine_table.specs.Table.{entry}
 use Rattle.sine_table.proofs.Laws.{entry-1, entry-5399}
 use Rattle.trig.specs.Sine.{right-angle, between, first-quarter, first-half, one-turn, sine, cosine}
@@ -47,7 +48,16 @@ marked = (
                   ap pos (angle-none 0 0 refl),
                   (
                     sphere-quarter,
-                    tt,
+                    (
+                      degree-256th,
+                      (
+                        degree-minus-256th,
+                        (
+                          metre-8th,
+                          tt,
+                        ),
+                      ),
+                    ),
                   ),
                 ),
               ),

@@ -1,8 +1,11 @@
 -- Document 01, "Points on both sides": the cases marked P, as one table, over the definitions that the contracts cite.
 use mathlib.Core.Path.{_≡_}
+use mathlib.Core.Bool.{true, false}
 use mathlib.Core.List.{List, [], _∷_}
 use lib.IntN.{ℤ, pos, negsuc}
+use lib.Ieee.{fin}
 use Rattle.integers.specs.Near.{near}
+use Rattle.floats.specs.Units.{degree, metre, wholeOf}
 use Rattle.sine_table.specs.Table.{entry}
 use Rattle.trig.specs.Sine.{sine}
 use Rattle.trig.specs.Angle.{angle}
@@ -35,7 +38,7 @@ sphere =
       «false_northing» = pos 0;
     }
 
--- `negsuc n` is −(n + 1)
+-- `negsuc n` is −(n + 1); a double is its sign, m and e, m · 2^e in size: 1/256 is 1 · 2^−8
 abbrev pub P : List Case
 P =
     (near (pos 5) 2 is pos 3)
@@ -48,4 +51,7 @@ P =
     ∷ (pos (angle 0 1) is pos 324_000_000)
     ∷ (pos (angle 0 0) is pos 0)
     ∷ (forwardOf sphere (record { 0 = pos 0 }) (pos 324_000_000) goes-to Plane (pos 848_528_138) (pos 0))
+    ∷ (wholeOf degree (fin false 1 (negsuc 7)) is pos 14_063)
+    ∷ (wholeOf degree (fin true 1 (negsuc 7)) is negsuc 14_062)
+    ∷ (wholeOf metre (fin false 1 (negsuc 2)) is pos 13)
     ∷ []

@@ -1,12 +1,42 @@
 // Runs the papers' examples and prints what the library answers; the gate holds it to `stdout`.
 mod bad_input;
+mod cell_rows;
 mod centres;
+mod degrees_and_metres;
+mod digest;
+mod doubles;
 mod examples;
+mod filled;
+mod list_rows;
+mod lists;
+mod mixed;
 mod nearness;
+mod point_rows;
 mod print;
 mod rows;
 mod sizes;
 mod words;
+
+// The calls in degrees and metres, and the cells.
+fn doubles_rows() {
+    degrees_and_metres::centre();
+    degrees_and_metres::latitudes();
+    degrees_and_metres::longitudes();
+    degrees_and_metres::plane_limits();
+    degrees_and_metres::zeros();
+    degrees_and_metres::halves();
+    degrees_and_metres::not_numbers();
+    degrees_and_metres::order();
+    degrees_and_metres::too_far();
+    lists::of_degrees();
+    lists::of_metres();
+    lists::refusals();
+    mixed::of_degrees();
+    mixed::of_metres();
+    cell_rows::sides();
+    cell_rows::below_zero();
+    cell_rows::limits();
+}
 
 fn main() {
     let t = sine_table::table();
@@ -29,4 +59,5 @@ fn main() {
     nearness::polar();
     bad_input::extremes();
     bad_input::edges();
+    doubles_rows();
 }

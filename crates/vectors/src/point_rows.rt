@@ -1,0 +1,99 @@
+// A row of one point in degrees or metres: what was asked, the answer and what was expected, doubles by their bits.
+use crate::doubles::bits;
+use crate::doubles::doubles;
+use crate::print::refusal;
+use crate::print::text;
+use crate::print::verdict;
+use points::pairs::GeodeticPair;
+use points::pairs::GeodeticPairAnswer;
+use points::pairs::Marked;
+use points::pairs::PlanePair;
+use points::pairs::PlanePairAnswer;
+use points::single::forward_degrees;
+use points::single::inverse_metres;
+use projection::parameters::Parameters;
+
+// An answer that is accepted.
+pub(crate) fn answer(first: f64, second: f64) -> Marked {
+    Marked {
+        mark: 0,
+        first,
+        second,
+    }
+}
+
+// An answer that is refused.
+pub(crate) fn refused(number: u8) -> Marked {
+    Marked {
+        mark: number,
+        first: 0.0,
+        second: 0.0,
+    }
+}
+
+fn show(m: Marked) {
+    if m.mark != 0 {
+        refusal(m.mark);
+        return;
+    }
+    doubles(m.first, m.second);
+}
+
+// Both numbers alike in every bit, and the mark.
+fn are_alike(m: Marked, n: Marked) -> bool {
+    if m.mark != n.mark {
+        return false;
+    }
+    if bits(m.first) != bits(n.first) {
+        return false;
+    }
+    bits(m.second) == bits(n.second)
+}
+
+// The end of a row.
+pub(crate) fn compare(found: Marked, expected: Marked) {
+    show(found);
+    text(b", expected ");
+    show(expected);
+    verdict(are_alike(found, expected));
+}
+
+fn asked(name: &[u8], call: &[u8], x: f64, y: f64) {
+    text(name);
+    text(call);
+    doubles(x, y);
+    text(b": ");
+}
+
+fn forward_answer(p: Parameters, latitude: f64, longitude: f64) -> Marked {
+    let at = GeodeticPair {
+        latitude,
+        longitude,
+    };
+    let found = forward_degrees(p, at);
+    match found {
+        PlanePairAnswer::Metres(pair) => answer(pair.first, pair.second),
+        PlanePairAnswer::Refused(number) => refused(number),
+    }
+}
+
+fn inverse_answer(p: Parameters, first: f64, second: f64) -> Marked {
+    let at = PlanePair { first, second };
+    let found = inverse_metres(p, at);
+    match found {
+        GeodeticPairAnswer::Degrees(pair) => answer(pair.latitude, pair.longitude),
+        GeodeticPairAnswer::Refused(number) => refused(number),
+    }
+}
+
+// Degrees to metres.
+pub(crate) fn degrees_row(name: &[u8], p: Parameters, lat: f64, lon: f64, expected: Marked) {
+    asked(name, b" degrees ", lat, lon);
+    compare(forward_answer(p, lat, lon), expected);
+}
+
+// Metres to degrees.
+pub(crate) fn metres_row(name: &[u8], p: Parameters, x: f64, y: f64, expected: Marked) {
+    asked(name, b" metres ", x, y);
+    compare(inverse_answer(p, x, y), expected);
+}
