@@ -29,7 +29,7 @@ use Rattle.points.specs.declared.pairs.GeodeticPairAnswer.{GeodeticPairAnswer}
 use Rattle.points.specs.declared.pairs.GeodeticPairAnswer.the-variants.{Degrees, Refused as NotFound}
 use Rattle.points.specs.Points.{areFinite, onGlobe, onPlane, latitudeMas, longitudeMas, eastingCm, northingCm, planePair, geodeticPair, inMetres, inDegrees, after, forwardPair, inversePair, forwardDegrees, inverseMetres}
 use Rattle.points_laws.specs.Theorems.{ForwardConverted, InverseConverted, ForwardFinite, InverseFinite, ForwardBack, InverseBack}
-use Rattle.points_laws.proofs.Sizes.{plane-size}
+use Rattle.projection_laws.proofs.Sizes.{plane-size}
 
 -- a call whose answer is a pair has passed every test
 module _ {A : Type 0} (is-pair : A → Bool) (refusedBy : ℕ → A) (no-pair : (n : ℕ) → is-pair (refusedBy n) ≡ false) {pair : A} (a-pair : is-pair pair ≡ true) where

@@ -1,4 +1,3 @@
-pub mod Sizes
 pub mod Converted
 pub mod Whole
 pub mod Listed

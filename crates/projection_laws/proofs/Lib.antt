@@ -5,3 +5,4 @@ pub mod Edge
 pub mod Ranges
 pub mod Refusals
 pub mod Witnesses
+pub mod Sizes
