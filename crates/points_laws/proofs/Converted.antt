@@ -2,15 +2,10 @@
 -- Assumes nothing.
 use mathlib.Core.Path.{_≡_, refl, sym, ap, ap₂, _∙_}
 use mathlib.Core.Bool.{Bool, true, false, cond, false≢true}
-use Prim.Native.Nat.{ℕ, zero, suc, _≤_, _<_}
-use native.Mathlib.Nat.{le-trans}
-use lib.Dec.{lit<, lit≤}
+use Prim.Native.Nat.{ℕ, zero, suc, _≤_}
 use lib.IntN.{ℤ, pos, natAbs}
-use lib.Signed.{_≤ℤ_, _<ℤ_}
-use lib.Ieee.{fin}
 use Rattle.proof_kit.proofs.Order.{<ℤ-≤ℤ, abs-between}
-use Rattle.floats.specs.Units.{metre}
-use Rattle.floats.proofs.Coordinates.{Coordinate, latitude, longitude, float-finite, float-back}
+use Rattle.floats.proofs.Coordinates.{latitude, longitude, plane, float-finite, float-back}
 use Rattle.projection.specs.declared.latitude.Geodetic.{Geodetic}
 use Rattle.projection.specs.declared.parameters.Parameters.{Parameters}
 use Rattle.projection.specs.declared.forward.PlaneAnswer.{PlaneAnswer}
@@ -20,7 +15,9 @@ use Rattle.projection.specs.declared.inverse.GeodeticAnswer.the-variants.{Posit
 use Rattle.projection.specs.ParameterSet.{setRefusal}
 use Rattle.projection.specs.ForwardSteps.{forwardOf}
 use Rattle.projection.specs.InverseSteps.{inverseOf}
+use Rattle.projection.proofs.InverseLaws.{plane-sizes}
 use Rattle.projection_laws.proofs.Ranges.{position-in-range}
+use Rattle.round_trip.proofs.Limits.{forward-on-plane}
 use Rattle.points.specs.declared.pairs.GeodeticPair.{GeodeticPair}
 use Rattle.points.specs.declared.pairs.PlanePair.{PlanePair}
 use Rattle.points.specs.declared.pairs.PlanePairAnswer.{PlanePairAnswer}
@@ -29,7 +26,6 @@ use Rattle.points.specs.declared.pairs.GeodeticPairAnswer.{GeodeticPairAnswer}
 use Rattle.points.specs.declared.pairs.GeodeticPairAnswer.the-variants.{Degrees, Refused as NotFound}
 use Rattle.points.specs.Points.{areFinite, onGlobe, onPlane, latitudeMas, longitudeMas, eastingCm, northingCm, planePair, geodeticPair, inMetres, inDegrees, after, forwardPair, inversePair, forwardDegrees, inverseMetres}
 use Rattle.points_laws.specs.Theorems.{ForwardConverted, InverseConverted, ForwardFinite, InverseFinite, ForwardBack, InverseBack}
-use Rattle.projection_laws.proofs.Sizes.{plane-size}
 
 -- a call whose answer is a pair has passed every test
 module _ {A : Type 0} (is-pair : A → Bool) (refusedBy : ℕ → A) (no-pair : (n : ℕ) → is-pair (refusedBy n) ≡ false) {pair : A} (a-pair : is-pair pair ≡ true) where
@@ -41,6 +37,10 @@ module _ {A : Type 0} (is-pair : A → Bool) (refusedBy : ℕ → A) (no-pair : 
   last-answer zero true false answer e = absurd (clash 3 e)
   last-answer zero false g answer e = absurd (clash 2 e)
   last-answer (suc n) f g answer e = absurd (clash (suc n) e)
+
+  no-refusal : (n : ℕ) (answer : A) → after refusedBy n answer ≡ pair → n ≡ 0
+  no-refusal zero answer e = refl
+  no-refusal (suc n) answer e = absurd (clash (suc n) e)
 
 -- ---- forward
 
@@ -56,8 +56,12 @@ pub forward-converted : ForwardConverted
 unfolding forwardDegrees forwardPair
 forward-converted p at pair e = sym (last-answer is-metres Refused (λ n. refl) refl (setRefusal p) (areFinite (at .latitude) (at .longitude)) (onGlobe at) _ e)
 
+pub forward-set-accepted : (p : Parameters) (at : GeodeticPair) (pair : PlanePair) → forwardDegrees p at ≡ Metres pair → setRefusal p ≡ 0
+unfolding forwardDegrees
+forward-set-accepted p at pair e = no-refusal is-metres Refused (λ n. refl) refl (setRefusal p) _ e
+
 -- the whole numbers of an answer in metres
-record PlaneWhole (answer : PlaneAnswer) (pair : PlanePair) : Type 0 where
+pub record PlaneWhole (answer : PlaneAnswer) (pair : PlanePair) : Type 0 where
   pub E : ℤ
   pub N : ℤ
   pub whole : answer ≡ Plane E N
@@ -67,24 +71,17 @@ plane-whole : (answer : PlaneAnswer) (pair : PlanePair) → Metres pair ≡ inMe
 plane-whole (Plane E N) pair e = record { E = E; N = N; whole = refl; floats = ap metres-of e }
 plane-whole (PlaneRefused n) pair e = absurd (false≢true (sym (ap is-metres e)))
 
--- eastings and northings reach further than the limit of those put in
-far : Coordinate metre (fin false 390_625 (pos 10)) 40_000_000_000
-far = record { digits = 390_625; twos = 10; limit-is = refl; most-is = refl; unit-some = lit< tt; unit-small = lit≤ tt; most-small = lit< tt }
-
 module _ (p : Parameters) (at : GeodeticPair) (pair : PlanePair) (e : forwardDegrees p at ≡ Metres pair) where
-  metres-whole : PlaneWhole (forwardOf p (latitudeMas at) (longitudeMas at)) pair
+  pub metres-whole : PlaneWhole (forwardOf p (latitudeMas at) (longitudeMas at)) pair
   metres-whole = plane-whole (forwardOf p (latitudeMas at) (longitudeMas at)) pair (forward-converted p at pair e)
 
-  easting-size : natAbs (metres-whole .E) ≤ 40_000_000_000
-  easting-size = le-trans (plane-size p (latitudeMas at) (longitudeMas at) (metres-whole .E) (metres-whole .N) (metres-whole .whole) .0) (lit≤ tt)
-
-  northing-size : natAbs (metres-whole .N) ≤ 40_000_000_000
-  northing-size = le-trans (plane-size p (latitudeMas at) (longitudeMas at) (metres-whole .E) (metres-whole .N) (metres-whole .whole) .1) (lit≤ tt)
+  pub metres-size : (natAbs (metres-whole .E) ≤ 5_000_000_000) × (natAbs (metres-whole .N) ≤ 5_000_000_000)
+  metres-size = plane-sizes (metres-whole .E) (metres-whole .N) (forward-on-plane p (latitudeMas at) (longitudeMas at) (metres-whole .E) (metres-whole .N) (metres-whole .whole))
 
 pub forward-finite : ForwardFinite
 forward-finite p at pair e =
     rw (metres-whole p at pair e .floats)
-    (float-finite far (metres-whole p at pair e .E) (easting-size p at pair e), float-finite far (metres-whole p at pair e .N) (northing-size p at pair e))
+    (float-finite plane (metres-whole p at pair e .E) (metres-size p at pair e .0), float-finite plane (metres-whole p at pair e .N) (metres-size p at pair e .1))
 
 pub forward-back : ForwardBack
 unfolding eastingCm northingCm
@@ -92,8 +89,8 @@ forward-back p at pair e =
     let x = metres-whole p at pair e in
     x .whole
     ∙ ap₂ Plane
-    (sym (ap eastingCm (x .floats) ∙ float-back far (x .E) (easting-size p at pair e)))
-    (sym (ap northingCm (x .floats) ∙ float-back far (x .N) (northing-size p at pair e)))
+    (sym (ap eastingCm (x .floats) ∙ float-back plane (x .E) (metres-size p at pair e .0)))
+    (sym (ap northingCm (x .floats) ∙ float-back plane (x .N) (metres-size p at pair e .1)))
 
 -- ---- back
 

@@ -24,6 +24,18 @@ none-of-two (suc a) b e = let z : ⊥ = omega (arith, e) in absurd z
 same-row : {r : Marked} {m : ℕ} {x y : Float} → m ≡ r .mark → x ≡ r .first → y ≡ r .second → record { mark = m; first = x; second = y } ≡ r
 same-row e f g = rw (e, f, g)
 
+-- a call that is not refused
+module _ (p : Parameters) (xs ys first second : List Float) (mark : List ℕ) (none : listRefusal p xs ys first second mark ≡ 0) where
+  tests-passed : (lengthRefusal (length xs) (length ys) (length first) (length second) (length mark) ≡ 0) × (setRefusal p ≡ 0)
+  unfolding listRefusal
+  tests-passed = none-of-two (lengthRefusal (length xs) (length ys) (length first) (length second) (length mark)) (setRefusal p) none
+
+  pub set-accepted : setRefusal p ≡ 0
+  set-accepted = tests-passed .1
+
+  same-length : length ys ≡ length xs
+  same-length = equal-lengths _ _ _ _ _ (tests-passed .0) .0
+
 module _ (p : Parameters) (row : Float → Float → Marked) (xs ys first first′ second second′ : List Float) (mark mark′ : List ℕ) (answer : ListAnswer) (call : ListCall p row xs ys first first′ second second′ mark mark′ answer) where
   -- the call's refusal
   module _ (n : ℕ) (is : listRefusal p xs ys first second mark ≡ n) where
@@ -40,35 +52,29 @@ module _ (p : Parameters) (row : Float → Float → Marked) (xs ys first first�
     answer-by = call .answer-is ∙ ap (λ (k : ℕ). listAnswer k (zeros mark′)) is
 
   module _ (none : listRefusal p xs ys first second mark ≡ 0) where
-    tests-passed : (lengthRefusal (length xs) (length ys) (length first) (length second) (length mark) ≡ 0) × (setRefusal p ≡ 0)
-    unfolding listRefusal
-    tests-passed = none-of-two _ _ none
-
-    same-length : length ys ≡ length xs
-    same-length = equal-lengths _ _ _ _ _ (tests-passed .0) .0
-
     row-at : (k : ℕ) → k < length xs → rowAt k first′ second′ mark′ ≡ row (getD xs k nan) (getD ys k nan)
     row-at k l =
+        let same = same-length p xs ys first second mark none in
         same-row
-        (ap (λ (t : List ℕ). getD t k 0) (marks-by 0 none) ∙ column-at (λ (r : Marked). r .mark) row xs ys k 0 nan nan same-length l)
-        (ap (λ (t : List Float). getD t k nan) (firsts-by 0 none) ∙ column-at (λ (r : Marked). r .first) row xs ys k nan nan nan same-length l)
-        (ap (λ (t : List Float). getD t k nan) (seconds-by 0 none) ∙ column-at (λ (r : Marked). r .second) row xs ys k nan nan nan same-length l)
+        (ap (λ (t : List ℕ). getD t k 0) (marks-by 0 none) ∙ column-at (λ (r : Marked). r .mark) row xs ys k 0 nan nan same l)
+        (ap (λ (t : List Float). getD t k nan) (firsts-by 0 none) ∙ column-at (λ (r : Marked). r .first) row xs ys k nan nan nan same l)
+        (ap (λ (t : List Float). getD t k nan) (seconds-by 0 none) ∙ column-at (λ (r : Marked). r .second) row xs ys k nan nan nan same l)
 
 pub forward-listed : ForwardListed
 unfolding forwardRow
 forward-listed p xs ys first first′ second second′ mark mark′ answer call none k l =
     row-at p (forwardRow p) xs ys first first′ second second′ mark mark′ answer call none k l
-    ∙ ap plane-marked (sym (forward-degrees-accepted p (degrees (getD xs k nan) (getD ys k nan)) (tests-passed p (forwardRow p) xs ys first first′ second second′ mark mark′ answer call none .1)))
+    ∙ ap plane-marked (sym (forward-degrees-accepted p (degrees (getD xs k nan) (getD ys k nan)) (set-accepted p xs ys first second mark none)))
 
 pub inverse-listed : InverseListed
 unfolding inverseRow
 inverse-listed p xs ys first first′ second second′ mark mark′ answer call none k l =
     row-at p (inverseRow p) xs ys first first′ second second′ mark mark′ answer call none k l
-    ∙ ap geodetic-marked (sym (inverse-metres-accepted p (metres (getD xs k nan) (getD ys k nan)) (tests-passed p (inverseRow p) xs ys first first′ second second′ mark mark′ answer call none .1)))
+    ∙ ap geodetic-marked (sym (inverse-metres-accepted p (metres (getD xs k nan) (getD ys k nan)) (set-accepted p xs ys first second mark none)))
 
 pub list-counted : ListCounted
 list-counted p row xs ys first first′ second second′ mark mark′ answer call none =
-    let same = same-length p row xs ys first first′ second second′ mark mark′ answer call none in (
+    let same = same-length p xs ys first second mark none in (
       answer-by p row xs ys first first′ second second′ mark mark′ answer call 0 none,
       ap length (firsts-by p row xs ys first first′ second second′ mark mark′ answer call 0 none) ∙ column-length (λ (r : Marked). r .first) row xs ys same,
       ap length (seconds-by p row xs ys first first′ second second′ mark mark′ answer call 0 none) ∙ column-length (λ (r : Marked). r .second) row xs ys same,

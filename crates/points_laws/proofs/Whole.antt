@@ -2,7 +2,6 @@
 -- numbers, and the centre's floats go to the false origin's, and back. Assumes nothing.
 use mathlib.Core.Path.{_≡_, ap, ap₂, _∙_}
 use mathlib.Core.Bool.{true}
-use Prim.Native.Nat.{_≤_}
 use native.Mathlib.Nat.{le-trans}
 use lib.Dec.{lit≤}
 use lib.IntN.{ℤ}

@@ -92,7 +92,7 @@ inverse-numbers p E N n e = subst GeodeticNumbered e (inverse-numbered p E N)
 
 -- ---- what is told decides the answer
 
-not-zero : {n : ℕ} → OneOfThree n → n ≡ 0 → ⊥
+pub not-zero : {n : ℕ} → OneOfThree n → n ≡ 0 → ⊥
 not-zero (inl e) z = omega arith
 not-zero (inr (inl e)) z = omega arith
 not-zero (inr (inr e)) z = omega arith

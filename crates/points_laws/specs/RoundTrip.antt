@@ -1,0 +1,92 @@
+-- Demand 3 over doubles, and demands 2 and 3 at an index of a list call. What `FloatRoundTrip` states is proved as `float-round-trip` in proofs/, and so the others.
+use Prim.Native.Nat.{ℕ, _≤_, _<_}
+use mathlib.Core.Path.{_≡_}
+use mathlib.Core.List.{List}
+use lib.IntN.{pos, natAbs}
+use lib.Signed.{_≤ℤ_}
+use lib.Ieee.{Float, nan}
+use lib.ListN.{length, getD}
+use Rattle.projection.specs.declared.parameters.Parameters.{Parameters}
+use Rattle.projection.specs.declared.inverse.GeodeticAnswer.the-variants.{Position}
+use Rattle.projection.specs.ForwardSteps.{nearness}
+use Rattle.round_trip.specs.RoundTrip.{farthest-latitude, least-nearness, latitude-bound, gap-bound, CloseTo}
+use Rattle.points.specs.declared.pairs.GeodeticPair.{GeodeticPair}
+use Rattle.points.specs.declared.pairs.PlanePair.{PlanePair}
+use Rattle.points.specs.declared.pairs.GeodeticPairAnswer.{GeodeticPairAnswer}
+use Rattle.points.specs.declared.pairs.PlanePairAnswer.the-variants.{Metres}
+use Rattle.points.specs.declared.pairs.GeodeticPairAnswer.the-variants.{Degrees}
+use Rattle.points.specs.declared.lists.ListAnswer.{ListAnswer}
+use Rattle.points.specs.Points.{latitudeMas, longitudeMas, planePair, geodeticPair, forwardDegrees, inverseMetres}
+use Rattle.points.specs.Told.{plane-marked, geodetic-marked}
+use Rattle.points.specs.Lists.{degrees, metres, forwardRow, inverseRow, listRefusal, ListCall}
+use Rattle.points_laws.specs.Theorems.{rowAt}
+
+-- ---- demand 3
+
+-- The conditions on a pair of degrees, by its whole numbers: at most 89 degrees from the Equator, and a nearness G of at least 1,000,000,000.
+abbrev pub NearPair : Parameters → GeodeticPair → Type 0
+NearPair p at = (natAbs (latitudeMas at .0) ≤ farthest-latitude) × (pos least-nearness ≤ℤ nearness p (latitudeMas at) (longitudeMas at))
+
+-- The whole numbers of `back` are within 200 mas of those of `at`, in latitude and in longitude gap.
+abbrev pub PairCloseTo : Parameters → GeodeticPair → GeodeticPair → Type 0
+PairCloseTo p at back = CloseTo latitude-bound gap-bound 1 p (latitudeMas at) (longitudeMas at) (Position (latitudeMas back) (longitudeMas back))
+
+-- An accepted answer that is close.
+pub record ComesBack (p : Parameters) (at : GeodeticPair) (answer : GeodeticPairAnswer) : Type 0 where
+  pub back : GeodeticPair
+  pub accepted : answer ≡ Degrees back
+  pub close : PairCloseTo p at back
+
+-- The inverse of exactly the floats that the forward call answered.
+abbrev pub FloatRoundTrip : Type 0
+FloatRoundTrip =
+    (p : Parameters) (at : GeodeticPair) (pair : PlanePair) →
+    NearPair p at →
+    forwardDegrees p at ≡ Metres pair →
+    ComesBack p at (inverseMetres p pair)
+
+-- ---- at an index of a list call
+
+-- What is told of an answer decides it: a mark of 0 stands for an accepted answer alone.
+abbrev pub ForwardDecided : Type 0
+ForwardDecided =
+    (p : Parameters) (at : GeodeticPair) (first second : Float) →
+    plane-marked (forwardDegrees p at) ≡ record { mark = 0; first = first; second = second } →
+    forwardDegrees p at ≡ Metres (metres first second)
+
+-- the exact centre, in a list call that is not refused
+abbrev pub CentreForwardListed : Type 0
+CentreForwardListed =
+    (p : Parameters) (xs ys first first′ second second′ : List Float) (mark mark′ : List ℕ) (answer : ListAnswer) →
+    ListCall p (forwardRow p) xs ys first first′ second second′ mark mark′ answer →
+    listRefusal p xs ys first second mark ≡ 0 →
+    (k : ℕ) →
+    k < length xs →
+    degrees (getD xs k nan) (getD ys k nan) ≡ geodeticPair (p .lat0 .0) (p .lon0) →
+    rowAt k first′ second′ mark′ ≡ plane-marked (Metres (planePair (p .«false_easting») (p .«false_northing»)))
+
+abbrev pub CentreInverseListed : Type 0
+CentreInverseListed =
+    (p : Parameters) (xs ys first first′ second second′ : List Float) (mark mark′ : List ℕ) (answer : ListAnswer) →
+    ListCall p (inverseRow p) xs ys first first′ second second′ mark mark′ answer →
+    listRefusal p xs ys first second mark ≡ 0 →
+    (k : ℕ) →
+    k < length xs →
+    metres (getD xs k nan) (getD ys k nan) ≡ planePair (p .«false_easting») (p .«false_northing») →
+    rowAt k first′ second′ mark′ ≡ geodetic-marked (Degrees (geodeticPair (p .lat0 .0) (p .lon0)))
+
+-- Demand 3 at an index: a forward list call, then an inverse list call on the two lists that it wrote.
+-- A position that meets the conditions and has mark 0 has mark 0 again, and comes back close.
+abbrev pub ListRoundTrip : Type 0
+ListRoundTrip =
+    (p : Parameters) (xs ys first first′ second second′ : List Float) (mark mark′ : List ℕ) (answer : ListAnswer) →
+    ListCall p (forwardRow p) xs ys first first′ second second′ mark mark′ answer →
+    listRefusal p xs ys first second mark ≡ 0 →
+    (lat lat′ lon lon′ : List Float) (again again′ : List ℕ) (answer′ : ListAnswer) →
+    ListCall p (inverseRow p) first′ second′ lat lat′ lon lon′ again again′ answer′ →
+    listRefusal p first′ second′ lat lon again ≡ 0 →
+    (k : ℕ) →
+    k < length xs →
+    getD mark′ k 0 ≡ 0 →
+    NearPair p (degrees (getD xs k nan) (getD ys k nan)) →
+    (getD again′ k 0 ≡ 0) × PairCloseTo p (degrees (getD xs k nan) (getD ys k nan)) (degrees (getD lat′ k nan) (getD lon′ k nan))
