@@ -63,20 +63,20 @@ abbrev pub inDegrees : GeodeticAnswer → GeodeticPairAnswer
 inDegrees (Position φ lon) = Degrees (geodeticPair (φ .0) lon)
 inDegrees (GeodeticRefused n) = NotFound n
 
--- a pair with an accepted set: 2, then 3, then the whole-unit answer
+-- "each point 2, 3, 4": each refusal in the answer's own case, then the whole-unit answer, which has 4
+abbrev pub tested : {A : Type 0} → (ℕ → A) → Bool → Bool → A → A
+tested refusedBy finite within-limits answer = cond finite (cond within-limits answer (refusedBy 3)) (refusedBy 2)
+
+-- a pair with an accepted set
 unfoldable pub forwardPair : Parameters → GeodeticPair → PlanePairAnswer
 forwardPair p at =
-    cond (areFinite (at .latitude) (at .longitude))
-    (cond (onGlobe at) (inMetres (forwardOf p (latitudeMas at) (longitudeMas at))) (Refused 3))
-    (Refused 2)
+    tested Refused (areFinite (at .latitude) (at .longitude)) (onGlobe at) (inMetres (forwardOf p (latitudeMas at) (longitudeMas at)))
 
 unfoldable pub inversePair : Parameters → PlanePair → GeodeticPairAnswer
 inversePair p at =
-    cond (areFinite (at .first) (at .second))
-    (cond (onPlane at) (inDegrees (inverseOf p (eastingCm at) (northingCm at))) (NotFound 3))
-    (NotFound 2)
+    tested NotFound (areFinite (at .first) (at .second)) (onPlane at) (inDegrees (inverseOf p (eastingCm at) (northingCm at)))
 
--- any set: its own refusal, where it has one, in the answer's own case
+-- any set: its own refusal, where it has one
 abbrev pub after : {A : Type 0} → (ℕ → A) → ℕ → A → A
 after refusedBy zero answer = answer
 after refusedBy (suc n) answer = refusedBy (suc n)

@@ -1,7 +1,7 @@
 -- An accepted answer is the whole-unit answer converted; so its floats are finite, and taken back they are its whole numbers.
 -- Assumes nothing.
 use mathlib.Core.Path.{_≡_, refl, sym, ap, ap₂, _∙_}
-use mathlib.Core.Bool.{Bool, true, false, cond, false≢true}
+use mathlib.Core.Bool.{Bool, true, false, false≢true}
 use Prim.Native.Nat.{ℕ, zero, suc, _≤_}
 use lib.IntN.{ℤ, pos, natAbs}
 use Rattle.proof_kit.proofs.Order.{<ℤ-≤ℤ, abs-between}
@@ -24,7 +24,7 @@ use Rattle.points.specs.declared.pairs.PlanePairAnswer.{PlanePairAnswer}
 use Rattle.points.specs.declared.pairs.PlanePairAnswer.the-variants.{Metres, Refused}
 use Rattle.points.specs.declared.pairs.GeodeticPairAnswer.{GeodeticPairAnswer}
 use Rattle.points.specs.declared.pairs.GeodeticPairAnswer.the-variants.{Degrees, Refused as NotFound}
-use Rattle.points.specs.Points.{areFinite, onGlobe, onPlane, latitudeMas, longitudeMas, eastingCm, northingCm, planePair, geodeticPair, inMetres, inDegrees, after, forwardPair, inversePair, forwardDegrees, inverseMetres}
+use Rattle.points.specs.Points.{areFinite, onGlobe, onPlane, latitudeMas, longitudeMas, eastingCm, northingCm, planePair, geodeticPair, inMetres, inDegrees, tested, after, forwardPair, inversePair, forwardDegrees, inverseMetres}
 use Rattle.points_laws.specs.Theorems.{ForwardConverted, InverseConverted, ForwardFinite, InverseFinite, ForwardBack, InverseBack}
 
 -- a call whose answer is a pair has passed every test
@@ -32,7 +32,7 @@ module _ {A : Type 0} (is-pair : A → Bool) (refusedBy : ℕ → A) (no-pair : 
   clash : (n : ℕ) → refusedBy n ≡ pair → ⊥
   clash n e = false≢true (sym (no-pair n) ∙ ap is-pair e ∙ a-pair)
 
-  last-answer : (n : ℕ) (f g : Bool) (answer : A) → after refusedBy n (cond f (cond g answer (refusedBy 3)) (refusedBy 2)) ≡ pair → answer ≡ pair
+  last-answer : (n : ℕ) (f g : Bool) (answer : A) → after refusedBy n (tested refusedBy f g answer) ≡ pair → answer ≡ pair
   last-answer zero true true answer e = e
   last-answer zero true false answer e = absurd (clash 3 e)
   last-answer zero false g answer e = absurd (clash 2 e)

@@ -1,7 +1,7 @@
 -- Demand 3 over doubles: the forward answer's floats stand for its whole numbers, which lie on the plane, so the inverse call answers as the whole-unit call does.
 -- At an index of a list call the same holds, for the call equals the single call there. Assumes nothing.
 use mathlib.Core.Path.{_≡_, refl, sym, ap, _∙_, subst}
-use mathlib.Core.Bool.{Bool, true, false, cond}
+use mathlib.Core.Bool.{Bool, true, false}
 use Prim.Native.Nat.{ℕ, zero, suc, _<_}
 use native.Mathlib.Omega.{arith}
 use lib.IntN.{pos}
@@ -24,7 +24,7 @@ use Rattle.points.specs.declared.pairs.Marked.{Marked}
 use Rattle.points.specs.declared.pairs.PlanePairAnswer.{PlanePairAnswer}
 use Rattle.points.specs.declared.pairs.PlanePairAnswer.the-variants.{Metres, Refused}
 use Rattle.points.specs.declared.pairs.GeodeticPairAnswer.the-variants.{Degrees}
-use Rattle.points.specs.Points.{areFinite, onGlobe, latitudeMas, longitudeMas, eastingCm, northingCm, geodeticPair, inMetres, inDegrees, after, forwardPair, forwardDegrees, inverseMetres}
+use Rattle.points.specs.Points.{areFinite, onGlobe, latitudeMas, longitudeMas, eastingCm, northingCm, geodeticPair, inMetres, inDegrees, tested, after, forwardPair, forwardDegrees, inverseMetres}
 use Rattle.points.specs.Told.{plane-marked, geodetic-marked}
 use Rattle.points.specs.Lists.{degrees, metres}
 use Rattle.points_laws.specs.Theorems.{rowAt}
@@ -66,7 +66,7 @@ abbrev Numbered : PlanePairAnswer → Type 0
 Numbered (Metres pair) = Unit {0}
 Numbered (Refused n) = n ≡ 0 → ⊥
 
-numbered-after : (n : ℕ) (f g : Bool) (answer : PlanePairAnswer) → Numbered answer → Numbered (after Refused n (cond f (cond g answer (Refused 3)) (Refused 2)))
+numbered-after : (n : ℕ) (f g : Bool) (answer : PlanePairAnswer) → Numbered answer → Numbered (after Refused n (tested Refused f g answer))
 numbered-after zero true true answer h = h
 numbered-after zero true false answer h = λ z. omega (arith, z)
 numbered-after zero false g answer h = λ z. omega (arith, z)
@@ -106,10 +106,10 @@ list-round-trip p xs ys first first′ second second′ mark mark′ answer call
     let at : GeodeticPair = degrees (getD xs k nan) (getD ys k nan) in
     let pair : PlanePair = metres (getD first′ k nan) (getD second′ k nan) in
     let there : forwardDegrees p at ≡ Metres pair =
-      forward-decided p at (getD first′ k nan) (getD second′ k nan)
-          (sym (forward-listed p xs ys first first′ second second′ mark mark′ answer call none k l) ∙ ap (λ (m : ℕ). record { mark = m; first = getD first′ k nan; second = getD second′ k nan }) zero-mark) in
+    forward-decided p at (getD first′ k nan) (getD second′ k nan)
+    (sym (forward-listed p xs ys first first′ second second′ mark mark′ answer call none k l) ∙ ap (λ (m : ℕ). record { mark = m; first = getD first′ k nan; second = getD second′ k nan }) zero-mark) in
     let trip = float-round-trip p at pair near there in
     let l′ : k < length first′ = subst (λ (n : ℕ). k < n) (sym (list-counted p _ xs ys first first′ second second′ mark mark′ answer call none .1)) l in
     let row : rowAt k lat′ lon′ again′ ≡ geodetic-marked (Degrees (trip .back)) =
-      inverse-listed p first′ second′ lat lat′ lon lon′ again again′ answer′ call′ none′ k l′ ∙ ap geodetic-marked (trip .accepted) in
+    inverse-listed p first′ second′ lat lat′ lon lon′ again again′ answer′ call′ none′ k l′ ∙ ap geodetic-marked (trip .accepted) in
     (ap (λ (m : Marked). m .mark) row, subst (PairCloseTo p at) (ap (λ (m : Marked). degrees (m .first) (m .second)) (sym row)) (trip .close))

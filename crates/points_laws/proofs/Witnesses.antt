@@ -17,10 +17,12 @@ use Rattle.projection.specs.InverseSteps.{inverseOf}
 use Rattle.projection.specs.Answers.{Told, plane-told, geodetic-told}
 use Rattle.projection_laws.specs.Theorems.{sizeless}
 use Rattle.projection_laws.proofs.Witnesses.{forward-witnesses as whole-forward, inverse-witnesses as whole-inverse}
-use Rattle.points.specs.Points.{areFinite, onGlobe, onPlane, inMetres, inDegrees}
+use Rattle.points.specs.declared.pairs.PlanePairAnswer.the-variants.{Refused as PairRefused}
+use Rattle.points.specs.declared.pairs.GeodeticPairAnswer.the-variants.{Refused as PairNotFound}
+use Rattle.points.specs.Points.{areFinite, onGlobe, onPlane, inMetres, inDegrees, forwardPair, inversePair, forwardDegrees, inverseMetres}
 use Rattle.points.specs.Told.{zeroFloat, plane-marked, geodetic-marked}
 use Rattle.points.specs.Lists.{degrees, metres, lengthRefusal, listRefusal}
-use Rattle.points.proofs.PairLaws.{forward-not-finite, forward-off-globe, forward-degrees-accepted, forward-degrees-refused, inverse-not-finite, inverse-off-plane, inverse-metres-accepted, inverse-metres-refused}
+use Rattle.points.proofs.PairLaws.{set-refused, forward-degrees-accepted, inverse-metres-accepted}
 use Rattle.points_laws.specs.Theorems.{past-pole, past-plane, ForwardWitnesses, InverseWitnesses, ListWitnesses}
 use Rattle.points_laws.proofs.Whole.{forward-whole, inverse-whole}
 
@@ -51,22 +53,24 @@ degrees-mark (Position φ lon) = refl
 degrees-mark (NotFound n) = refl
 
 pub forward-witnesses : ForwardWitnesses
+unfolding forwardDegrees forwardPair
 forward-witnesses = (
-  sym (forward-degrees-refused sizeless (degrees past-pole nan) 1 not-none (sym (sets .1))),
-  forward-degrees-accepted etrsLaea (degrees past-pole nan) (sets .0) ∙ sym (forward-not-finite etrsLaea (degrees past-pole nan) (finite-tests .0) refl),
+  sym (set-refused PairRefused _ 1 not-none (sym (sets .1))),
+  forward-degrees-accepted etrsLaea (degrees past-pole nan) (sets .0) ∙ rw (sym (finite-tests .0)),
   forward-degrees-accepted etrsLaea (degrees past-pole zeroFloat) (sets .0)
-      ∙ sym (forward-off-globe etrsLaea (degrees past-pole zeroFloat) (finite-tests .1) refl (limit-tests .0) refl),
+      ∙ rw (sym (finite-tests .1), sym (limit-tests .0)),
   ap (λ r. plane-marked r .mark) (forward-whole etrsLaea (sets .0) (negℤ (pos 187_200_000)) (negℤ (pos 612_000_000)) (lit≤ tt) (lit≤ tt))
       ∙ metres-mark (forwardOf etrsLaea (record { 0 = negℤ (pos 187_200_000) }) (negℤ (pos 612_000_000)))
       ∙ ap (λ (t : Told). t .refusal) (whole-forward .3),
 )
 
 pub inverse-witnesses : InverseWitnesses
+unfolding inverseMetres inversePair
 inverse-witnesses = (
-  sym (inverse-metres-refused sizeless (metres past-plane nan) 1 not-none (sym (sets .1))),
-  inverse-metres-accepted etrsLaea (metres past-plane nan) (sets .0) ∙ sym (inverse-not-finite etrsLaea (metres past-plane nan) (finite-tests .2) refl),
+  sym (set-refused PairNotFound _ 1 not-none (sym (sets .1))),
+  inverse-metres-accepted etrsLaea (metres past-plane nan) (sets .0) ∙ rw (sym (finite-tests .2)),
   inverse-metres-accepted etrsLaea (metres past-plane zeroFloat) (sets .0)
-      ∙ sym (inverse-off-plane etrsLaea (metres past-plane zeroFloat) (finite-tests .3) refl (limit-tests .1) refl),
+      ∙ rw (sym (finite-tests .3), sym (limit-tests .1)),
   ap (λ r. geodetic-marked r .mark) (inverse-whole etrsLaea (sets .0) (pos 5_000_000_000) (pos 0) (lit≤ tt) (lit≤ tt))
       ∙ degrees-mark (inverseOf etrsLaea (pos 5_000_000_000) (pos 0))
       ∙ ap (λ (t : Told). t .refusal) (whole-inverse .3),

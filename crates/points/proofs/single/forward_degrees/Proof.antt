@@ -4,9 +4,10 @@ use mathlib.Core.Path.{_≡_, sym, ap, _∙_}
 use Rattle.projection.specs.declared.parameters.Parameters.{Parameters}
 use Rattle.points.specs.declared.pairs.GeodeticPair.{GeodeticPair}
 use Rattle.points.specs.declared.pairs.PlanePairAnswer.{PlanePairAnswer}
+use Rattle.points.specs.declared.pairs.PlanePairAnswer.the-variants.{Refused}
 use Rattle.points.specs.Points.{forwardDegrees}
 use Rattle.points.specs.Told.{plane-marked, forwardMarked}
-use Rattle.points.proofs.PairLaws.{forward-degrees-accepted, forward-degrees-refused}
+use Rattle.points.proofs.PairLaws.{set-refused, forward-degrees-accepted}
 use Rattle.points.proofs.MarkLaws.{forward-marked}
 use Rattle.points.proofs.single.forward_degrees.Statement.{statement}
 use Rattle.points.proofs.single.forward_degrees.Tie as tie
@@ -19,10 +20,11 @@ refusal-requires : tie.Need-refusal-requires
 refusal-requires c κs = search needs
 
 returns : tie.Need-returns
+unfolding forwardDegrees
 returns c =
     let start = c .before .before in
     and-told (start .args .p) (start .args .at)
-    (forward-degrees-refused (start .args .p) (start .args .at) (c .before .refusal .result) (c .if1 .taken) (c .before .refusal .ensures))
+    (set-refused Refused _ (c .before .refusal .result) (c .if1 .taken) (c .before .refusal .ensures))
 
 table-requires : tie.Need-table-requires
 table-requires c κs = search needs

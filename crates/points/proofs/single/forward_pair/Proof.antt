@@ -8,10 +8,12 @@ use Rattle.proof_kit.proofs.Range.{returned}
 use Rattle.floats.specs.Limits.{within, latitudeLimit, longitudeLimit}
 use Rattle.floats.proofs.Coordinates.{latitude-is-longitude}
 use Rattle.projection.specs.declared.latitude.Geodetic.{Geodetic}
-use Rattle.projection.specs.ForwardSteps.{forwardPoint}
+use Rattle.projection.specs.ForwardSteps.{forwardOf, forwardPoint}
 use Rattle.projection.proofs.AcceptedSet.{both}
-use Rattle.points.specs.Points.{onGlobe, latitudeMas, longitudeMas, inMetres}
-use Rattle.points.proofs.PairLaws.{forward-not-finite, forward-off-globe, forward-on-globe}
+use Rattle.projection.proofs.ForwardLaws.{forward-of-accepted}
+use Rattle.points.specs.declared.pairs.PlanePairAnswer.the-variants.{Refused}
+use Rattle.points.specs.Points.{forwardPair, onGlobe, latitudeMas, longitudeMas, inMetres}
+use Rattle.points.proofs.PairLaws.{not-finite, beyond-limits, tests-passed}
 use Rattle.points.proofs.single.forward_pair.Statement.{statement}
 use Rattle.points.proofs.single.forward_pair.Tie as tie
 
@@ -19,17 +21,19 @@ are-finite-requires : tie.Need-are-finite-requires
 are-finite-requires c κs = search needs
 
 returns : tie.Need-returns
+unfolding forwardPair
 returns c =
-    let start = c .before .before in
-    forward-not-finite (start .args .p) (start .args .at) (c .before .are-finite .ensures) (c .if1 .taken)
+    let p = c .before .before .args .p in
+    let at = c .before .before .args .at in
+    not-finite Refused (inMetres (forwardOf p (latitudeMas at) (longitudeMas at))) (c .before .are-finite .ensures) (onGlobe at) (c .if1 .taken)
 
 is-on-globe-requires : tie.Need-is-on-globe-requires
 is-on-globe-requires c κs = search needs
 
 returns-2 : tie.Need-returns-2
+unfolding forwardPair
 returns-2 c =
-    let start = c .before .before .before .before in
-    forward-off-globe (start .args .p) (start .args .at) (c .before .before .before .are-finite .ensures) (c .before .before .if1 .left) (c .before .is-on-globe .ensures) (c .if2 .taken)
+    beyond-limits Refused _ (c .before .before .before .are-finite .ensures) (c .before .is-on-globe .ensures) (c .before .before .if1 .left) (c .if2 .taken)
 
 -- both coordinates are within their limits
 within-limits : (c : tie.Else2) → (within latitudeLimit (c .before .before .before .before .args .at .latitude) ≡ true) × (within longitudeLimit (c .before .before .before .before .args .at .longitude) ≡ true)
@@ -53,14 +57,15 @@ abbrev geodetic : ℤ → Geodetic
 geodetic φ = record { 0 = φ }
 
 returns-3 : tie.Need-returns-3
-unfolding latitudeMas longitudeMas
+unfolding forwardPair latitudeMas longitudeMas
 returns-3 c =
     let start = c .before .before .before .before .before .before .before .before in
     let known = c .before .before .before .before in
     c .in-metres .ensures
     ∙ ap inMetres (c .before .forward-point .ensures ∙ ap₂ (forwardPoint (start .args .p)) (ap geodetic (returned (c .before .before .before .degrees-to-mas .ok) ∙ c .before .before .before .degrees-to-mas .ensures))
     (returned (c .before .before .degrees-to-mas2 .ok) ∙ c .before .before .degrees-to-mas2 .ensures))
-    ∙ forward-on-globe (start .args .p) (start .args .at) (known .before .before .before .are-finite .ensures) (start .pre .1) (known .before .before .if1 .left) (known .before .is-on-globe .ensures) (known .if2 .left)
+    ∙ ap inMetres (sym (forward-of-accepted (start .args .p) (latitudeMas (start .args .at)) (longitudeMas (start .args .at)) (start .pre .1)))
+    ∙ tests-passed Refused _ (known .before .before .before .are-finite .ensures) (known .before .is-on-globe .ensures) (known .before .before .if1 .left) (known .if2 .left)
 
 pub forward-pair-spec : {M : Type 1} → statement M
 forward-pair-spec =

@@ -4,9 +4,10 @@ use mathlib.Core.Path.{_≡_, sym, ap, _∙_}
 use Rattle.projection.specs.declared.parameters.Parameters.{Parameters}
 use Rattle.points.specs.declared.pairs.PlanePair.{PlanePair}
 use Rattle.points.specs.declared.pairs.GeodeticPairAnswer.{GeodeticPairAnswer}
+use Rattle.points.specs.declared.pairs.GeodeticPairAnswer.the-variants.{Refused as NotFound}
 use Rattle.points.specs.Points.{inverseMetres}
 use Rattle.points.specs.Told.{geodetic-marked, inverseMarked}
-use Rattle.points.proofs.PairLaws.{inverse-metres-accepted, inverse-metres-refused}
+use Rattle.points.proofs.PairLaws.{set-refused, inverse-metres-accepted}
 use Rattle.points.proofs.MarkLaws.{inverse-marked}
 use Rattle.points.proofs.single.inverse_metres.Statement.{statement}
 use Rattle.points.proofs.single.inverse_metres.Tie as tie
@@ -19,10 +20,11 @@ refusal-requires : tie.Need-refusal-requires
 refusal-requires c κs = search needs
 
 returns : tie.Need-returns
+unfolding inverseMetres
 returns c =
     let start = c .before .before in
     and-told (start .args .p) (start .args .at)
-    (inverse-metres-refused (start .args .p) (start .args .at) (c .before .refusal .result) (c .if1 .taken) (c .before .refusal .ensures))
+    (set-refused NotFound _ (c .before .refusal .result) (c .if1 .taken) (c .before .refusal .ensures))
 
 table-requires : tie.Need-table-requires
 table-requires c κs = search needs

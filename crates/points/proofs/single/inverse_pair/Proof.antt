@@ -5,10 +5,12 @@ use mathlib.Core.Path.{_≡_, sym, ap, ap₂, _∙_}
 use mathlib.Core.Bool.{true}
 use Rattle.proof_kit.proofs.Range.{returned}
 use Rattle.floats.specs.Limits.{within, planeLimit}
-use Rattle.projection.specs.InverseSteps.{inversePoint}
+use Rattle.projection.specs.InverseSteps.{inverseOf, inversePoint}
 use Rattle.projection.proofs.AcceptedSet.{both}
-use Rattle.points.specs.Points.{onPlane, eastingCm, northingCm, inDegrees}
-use Rattle.points.proofs.PairLaws.{inverse-not-finite, inverse-off-plane, inverse-on-plane}
+use Rattle.projection.proofs.InverseLaws.{inverse-of-accepted}
+use Rattle.points.specs.declared.pairs.GeodeticPairAnswer.the-variants.{Refused as NotFound}
+use Rattle.points.specs.Points.{inversePair, onPlane, eastingCm, northingCm, inDegrees}
+use Rattle.points.proofs.PairLaws.{not-finite, beyond-limits, tests-passed}
 use Rattle.points.proofs.single.inverse_pair.Statement.{statement}
 use Rattle.points.proofs.single.inverse_pair.Tie as tie
 
@@ -16,17 +18,19 @@ are-finite-requires : tie.Need-are-finite-requires
 are-finite-requires c κs = search needs
 
 returns : tie.Need-returns
+unfolding inversePair
 returns c =
-    let start = c .before .before in
-    inverse-not-finite (start .args .p) (start .args .at) (c .before .are-finite .ensures) (c .if1 .taken)
+    let p = c .before .before .args .p in
+    let at = c .before .before .args .at in
+    not-finite NotFound (inDegrees (inverseOf p (eastingCm at) (northingCm at))) (c .before .are-finite .ensures) (onPlane at) (c .if1 .taken)
 
 is-on-plane-requires : tie.Need-is-on-plane-requires
 is-on-plane-requires c κs = search needs
 
 returns-2 : tie.Need-returns-2
+unfolding inversePair
 returns-2 c =
-    let start = c .before .before .before .before in
-    inverse-off-plane (start .args .p) (start .args .at) (c .before .before .before .are-finite .ensures) (c .before .before .if1 .left) (c .before .is-on-plane .ensures) (c .if2 .taken)
+    beyond-limits NotFound _ (c .before .before .before .are-finite .ensures) (c .before .is-on-plane .ensures) (c .before .before .if1 .left) (c .if2 .taken)
 
 -- both coordinates are within their limits
 within-limits : (c : tie.Else2) → (within planeLimit (c .before .before .before .before .args .at .first) ≡ true) × (within planeLimit (c .before .before .before .before .args .at .second) ≡ true)
@@ -47,14 +51,15 @@ in-degrees-requires : tie.Need-in-degrees-requires
 in-degrees-requires c κs = search needs
 
 returns-3 : tie.Need-returns-3
-unfolding eastingCm northingCm
+unfolding inversePair eastingCm northingCm
 returns-3 c =
     let start = c .before .before .before .before .before .before .before .before in
     let known = c .before .before .before .before in
     c .in-degrees .ensures
     ∙ ap inDegrees (c .before .inverse-point .ensures ∙ ap₂ (inversePoint (start .args .p)) (returned (c .before .before .before .metres-to-cm .ok) ∙ c .before .before .before .metres-to-cm .ensures)
     (returned (c .before .before .metres-to-cm2 .ok) ∙ c .before .before .metres-to-cm2 .ensures))
-    ∙ inverse-on-plane (start .args .p) (start .args .at) (known .before .before .before .are-finite .ensures) (start .pre .1) (known .before .before .if1 .left) (known .before .is-on-plane .ensures) (known .if2 .left)
+    ∙ ap inDegrees (sym (inverse-of-accepted (start .args .p) (eastingCm (start .args .at)) (northingCm (start .args .at)) (start .pre .1)))
+    ∙ tests-passed NotFound _ (known .before .before .before .are-finite .ensures) (known .before .is-on-plane .ensures) (known .before .before .if1 .left) (known .if2 .left)
 
 pub inverse-pair-spec : {M : Type 1} → statement M
 inverse-pair-spec =
