@@ -1,0 +1,63 @@
+-- `degrees::laea_inverse` meets its contract: each arm is a case of what the answer tells. Assumes nothing.
+use borrow.Author.Needs.{needs}
+use mathlib.Core.Path.{_≡_, sym, ap, _∙_}
+use lib.Ieee.{ofBits}
+use Rattle.projection.specs.declared.parameters.Parameters.{Parameters}
+use Rattle.points.specs.Told.{geodetic-marked, inverseMarked}
+use Rattle.points.specs.Lists.{metres}
+use Rattle.laea_c.specs.Calls.{setOf}
+use Rattle.laea_c.proofs.CallLaws.{set-is, floats-told}
+use Rattle.laea_c.proofs.degrees.laea_inverse.Statement.{statement}
+use Rattle.laea_c.proofs.degrees.laea_inverse.Tie as tie
+
+set-requires : tie.Need-set-requires
+set-requires c κs = search needs
+
+inverse-metres-requires : tie.Need-inverse-metres-requires
+inverse-metres-requires c κs = search needs
+
+enum-known-answer : tie.Need-enum-known-answer
+enum-known-answer c = search needs
+
+answer-floats-requires : tie.Need-answer-floats-requires
+answer-floats-requires c κs = search needs
+
+enum-known-answer-2 : tie.Need-enum-known-answer-2
+enum-known-answer-2 c = search needs
+
+answer-floats-requires-2 : tie.Need-answer-floats-requires-2
+answer-floats-requires-2 c κs = search needs
+
+tells :
+    (c : tie.After-inverse-metres) →
+    let x = c .before .before .args in
+    geodetic-marked (c .inverse-metres .result) ≡ inverseMarked (setOf (x .a) (x .e2) (x .lat0) (x .lon0) (x .false-easting) (x .false-northing)) (metres (x .easting) (x .northing))
+tells c =
+    let x = c .before .before .args in
+    let f = c .before .before .fits in
+    c .inverse-metres .ensures .1
+    ∙ ap (λ (p : Parameters). inverseMarked p (metres (x .easting) (x .northing))) (set-is (f .a) (f .e2) (f .lat0) (f .lon0) (f .false-easting) (f .false-northing) (c .before .set .ensures))
+
+returns : tie.Need-returns
+returns c =
+    let at = c .before .before .before in
+    floats-told (sym (ap geodetic-marked (at .answer .given .1)) ∙ tells (at .before .before)) (c .answer-floats .ensures)
+
+returns-2 : tie.Need-returns-2
+unfolding ofBits
+returns-2 c =
+    let at = c .before .before .before in
+    floats-told (sym (ap geodetic-marked (at .answer2 .given .1)) ∙ tells (at .before .before)) (c .answer-floats2 .ensures)
+
+pub laea-inverse-spec : {M : Type 1} → statement M
+laea-inverse-spec =
+    tie.close
+    (tie.spec
+    set-requires
+    inverse-metres-requires
+    enum-known-answer
+    answer-floats-requires
+    enum-known-answer-2
+    answer-floats-requires-2
+    returns
+    returns-2)

@@ -1,0 +1,53 @@
+-- `whole::laea_cell` meets its contract: each arm is a case of what the answer tells. Assumes nothing.
+use borrow.Author.Needs.{needs}
+use mathlib.Core.Path.{_≡_, refl, sym, ap, _∙_}
+use mir.Facts.{toZ-ofZ}
+use Rattle.cells.specs.Cells.{cell-told, cellTold}
+use Rattle.laea_c.proofs.CallLaws.{whole-told}
+use Rattle.laea_c.proofs.whole.laea_cell.Statement.{statement}
+use Rattle.laea_c.proofs.whole.laea_cell.Tie as tie
+
+cell-requires : tie.Need-cell-requires
+cell-requires c κs = search needs
+
+enum-known-answer : tie.Need-enum-known-answer
+enum-known-answer c = search needs
+
+answer-whole-requires : tie.Need-answer-whole-requires
+answer-whole-requires c κs = search needs
+
+enum-known-answer-2 : tie.Need-enum-known-answer-2
+enum-known-answer-2 c = search needs
+
+answer-whole-requires-2 : tie.Need-answer-whole-requires-2
+answer-whole-requires-2 c κs = search needs
+
+tells :
+    (c : tie.After-cell) →
+    let x = c .before .args in
+    cell-told (c .cell .result) ≡ cellTold (x .side) (x .easting) (x .northing)
+tells c =
+    let f = c .before .fits in
+    c .cell .ensures .1 ∙ rw (toZ-ofZ (f .side), toZ-ofZ (f .easting), toZ-ofZ (f .northing))
+
+returns : tie.Need-returns
+returns c =
+    let at = c .before .before .before in
+    whole-told (toZ-ofZ (search needs)) (toZ-ofZ (search needs)) (sym (ap cell-told (at .answer .given .1)) ∙ tells (at .before .before)) (c .answer-whole .ensures)
+
+returns-2 : tie.Need-returns-2
+returns-2 c =
+    let at = c .before .before .before in
+    whole-told refl refl (sym (ap cell-told (at .answer2 .given .1)) ∙ tells (at .before .before)) (c .answer-whole2 .ensures)
+
+pub laea-cell-spec : {M : Type 1} → statement M
+laea-cell-spec =
+    tie.close
+    (tie.spec
+    cell-requires
+    enum-known-answer
+    answer-whole-requires
+    enum-known-answer-2
+    answer-whole-requires-2
+    returns
+    returns-2)

@@ -1,0 +1,63 @@
+// Lists of points, in degrees and metres.
+use crate::parameters::set;
+use integers::signed;
+use points::lists::ListAnswer;
+use points::lists::forward_list;
+use points::lists::inverse_list;
+ghost use mathlib.Core.Path.{_≡_};
+ghost use Prim.Native.Nat.{_≤_};
+ghost use Rattle.points.specs.Lists.{forwardRow, inverseRow, list-told};
+ghost use Rattle.laea_c.specs.Calls.{setOf, returned as returnedOf, ReturnsList};
+
+// The count, or the refusal number made negative.
+fn returned(answer: ListAnswer) -> i64
+    requires { ⌜ list-told answer .count ≤ 4_096 ⌝ }
+    ensures { λ r. ⌜ r ≡ returnedOf answer ⌝ }
+{
+    match answer {
+        ListAnswer::Count(count) => signed(false, count),
+        ListAnswer::Refused(number) => signed(true, number as u64),
+    }
+}
+
+// Degrees to metres.
+#[no_mangle]
+pub extern "C" fn laea_forward_list(
+    a: i64,
+    e2: i64,
+    lat0: i64,
+    lon0: i64,
+    false_easting: i64,
+    false_northing: i64,
+    latitudes: &[f64],
+    longitudes: &[f64],
+    firsts: &mut [f64],
+    seconds: &mut [f64],
+    marks: &mut [u8],
+) -> i64
+    ensures { λ r. ⌜ ReturnsList (setOf a e2 lat0 lon0 «false_easting» «false_northing») forwardRow (now (latitudes .entry)) (now (longitudes .entry)) (now (firsts .entry)) (now (firsts .exit)) (now (seconds .entry)) (now (seconds .exit)) (now (marks .entry)) (now (marks .exit)) r ⌝ }
+{
+    let p = set(a, e2, lat0, lon0, false_easting, false_northing);
+    returned(forward_list(p, latitudes, longitudes, firsts, seconds, marks))
+}
+
+// Metres to degrees.
+#[no_mangle]
+pub extern "C" fn laea_inverse_list(
+    a: i64,
+    e2: i64,
+    lat0: i64,
+    lon0: i64,
+    false_easting: i64,
+    false_northing: i64,
+    firsts: &[f64],
+    seconds: &[f64],
+    latitudes: &mut [f64],
+    longitudes: &mut [f64],
+    marks: &mut [u8],
+) -> i64
+    ensures { λ r. ⌜ ReturnsList (setOf a e2 lat0 lon0 «false_easting» «false_northing») inverseRow (now (firsts .entry)) (now (seconds .entry)) (now (latitudes .entry)) (now (latitudes .exit)) (now (longitudes .entry)) (now (longitudes .exit)) (now (marks .entry)) (now (marks .exit)) r ⌝ }
+{
+    let p = set(a, e2, lat0, lon0, false_easting, false_northing);
+    returned(inverse_list(p, firsts, seconds, latitudes, longitudes, marks))
+}

@@ -1,0 +1,83 @@
+// One point, in mas and cm; and the cell of a position.
+use crate::parameters::set;
+use cells::CellAnswer;
+use cells::cell;
+use projection::forward::PlaneAnswer;
+use projection::forward::forward;
+use projection::inverse::GeodeticAnswer;
+use projection::inverse::inverse;
+use projection::latitude::Geodetic;
+ghost use Rattle.cells.specs.Cells.{cellTold};
+ghost use Rattle.projection.specs.Answers.{forwardTold, inverseTold};
+ghost use Rattle.laea_c.specs.Calls.{setOf, Answered, AnswersWhole};
+
+// Writes the two values where the refusal number is 0, and only there. Returns the number.
+fn answer_whole(refusal: u8, first: i64, second: i64, out: &mut [i64; 2]) -> u8
+    ensures { λ r. ⌜ Answered refusal first second (now (out .entry)) (now (out .exit)) r ⌝ }
+{
+    if refusal == 0 {
+        *out = [first, second];
+    }
+    refusal
+}
+
+// mas to cm: easting and northing.
+#[no_mangle]
+pub extern "C" fn laea_forward_whole(
+    a: i64,
+    e2: i64,
+    lat0: i64,
+    lon0: i64,
+    false_easting: i64,
+    false_northing: i64,
+    latitude: i64,
+    longitude: i64,
+    out: &mut [i64; 2],
+) -> u8
+    ensures { λ r. ⌜ AnswersWhole (forwardTold (setOf a e2 lat0 lon0 «false_easting» «false_northing») (record { 0 = latitude }) longitude) (now (out .entry)) (now (out .exit)) r ⌝ }
+{
+    let p = set(a, e2, lat0, lon0, false_easting, false_northing);
+    let answer = forward(p, Geodetic(latitude), longitude);
+    match answer {
+        PlaneAnswer::Plane { easting, northing } => answer_whole(0, easting, northing, out),
+        PlaneAnswer::Refused(number) => answer_whole(number, 0, 0, out),
+    }
+}
+
+// cm to mas: latitude and longitude.
+#[no_mangle]
+pub extern "C" fn laea_inverse_whole(
+    a: i64,
+    e2: i64,
+    lat0: i64,
+    lon0: i64,
+    false_easting: i64,
+    false_northing: i64,
+    easting: i64,
+    northing: i64,
+    out: &mut [i64; 2],
+) -> u8
+    ensures { λ r. ⌜ AnswersWhole (inverseTold (setOf a e2 lat0 lon0 «false_easting» «false_northing») easting northing) (now (out .entry)) (now (out .exit)) r ⌝ }
+{
+    let p = set(a, e2, lat0, lon0, false_easting, false_northing);
+    let answer = inverse(p, easting, northing);
+    match answer {
+        GeodeticAnswer::Position {
+            latitude,
+            longitude,
+        } => answer_whole(0, latitude.0, longitude, out),
+        GeodeticAnswer::Refused(number) => answer_whole(number, 0, 0, out),
+    }
+}
+
+// The cell of a position in cm: its numbers east and north.
+#[no_mangle]
+pub extern "C" fn laea_cell(side: i64, easting: i64, northing: i64, out: &mut [i64; 2]) -> u8
+    ensures { λ r. ⌜ AnswersWhole (cellTold side easting northing) (now (out .entry)) (now (out .exit)) r ⌝ }
+{
+    let answer = cell(side, easting, northing);
+    match answer {
+        CellAnswer::Cell { east, north } => answer_whole(0, east, north, out),
+        CellAnswer::Refused(number) => answer_whole(number, 0, 0, out),
+    }
+}
