@@ -1,0 +1,19 @@
+//! A second opinion on the archive: the rules of the papers written a second time, plainly and
+//! slowly, from the papers alone, and every call of the archive held to it on random and hostile
+//! input, bit for bit.
+//!
+//! `LAEA_INPUTS` sets the number of inputs for each call (1,000,000 without it), `LAEA_SEED` the
+//! seed (the clock without it). Each run prints its seed and its counts: use `--nocapture`.
+
+mod big;
+mod calls;
+mod lists;
+mod marked;
+mod positions;
+mod random;
+mod raw;
+mod report;
+mod sets;
+mod single;
+mod steps;
+mod table;
