@@ -1,0 +1,35 @@
+-- `laea::answer_rest` is safe: an answer has at most 32 bytes. Assumes nothing.
+use borrow.Author.Needs.{needs}
+use mathlib.Core.Path.{sym}
+use lib.Seq.{length-take-le}
+use Rattle.splitter.specs.Splitting.{lastLine, answersOf, partOf}
+use Rattle.splitter.proofs.Answering.{last-size, written-within}
+use Rattle.laea.proofs.answer_rest.Statement.{statement}
+use Rattle.laea.proofs.answer_rest.Tie as tie
+
+answer-last-requires : tie.Need-answer-last-requires
+answer-last-requires c κs = search needs
+
+array-share-prefix-out : tie.Need-array-share-prefix-out
+array-share-prefix-out c =
+    let part = partOf (c .before .before .args .c) in
+    written-within _ (answersOf (lastLine part)) (last-size part) (c .answer-last .ensures .0) (c .answer-last .ensures .1)
+
+slice-aggregate-write-all : tie.Need-slice-aggregate-write-all
+slice-aggregate-write-all c = sym (length-take-le _ _ (array-share-prefix-out (c .before)))
+
+write-all-requires : tie.Need-write-all-requires
+write-all-requires c κs = search needs
+
+returns : tie.Need-returns
+returns c = search needs
+
+pub answer-rest-spec : {M : Type 1} → statement M
+answer-rest-spec =
+    tie.close
+    (tie.spec
+    answer-last-requires
+    array-share-prefix-out
+    slice-aggregate-write-all
+    write-all-requires
+    returns)
