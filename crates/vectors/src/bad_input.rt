@@ -1,83 +1,84 @@
 // ETRS-LAEA with one field, or one coordinate, out of its limits: refused, never wrapped.
-use crate::print::say;
-use crate::rows::forward_refused;
-use crate::rows::inverse_refused;
-use projection::latitude::Geodetic;
+use crate::rows::refused_row;
+use crate::rows::set;
+use printing::line;
+use printing::value;
 use projection::parameters::Parameters;
 
 const LEAST: i64 = -9223372036854775808;
 
 const MOST: i64 = 9223372036854775807;
 
+// The fields of a set by their numbers, then what stands before a row.
+fn name(k: usize) {
+    line(
+        b"a
+e2
+lat0
+lon0
+FE
+FN
+   
+ETRS-LAEA",
+        k,
+    );
+}
+
 // Both directions are refused 1.
 fn refused(p: Parameters) {
-    forward_refused(b"   ", p, 187200000, 36000000, 1);
-    inverse_refused(b"   ", p, 432100000, 321000000, 1);
+    name(6);
+    refused_row(true, p, 187200000, 36000000, 1);
+    name(6);
+    refused_row(false, p, 432100000, 321000000, 1);
 }
 
-fn bad_a(z: i64) {
-    say(b"a = ", z);
-    let mut p = Parameters::etrs_laea();
-    p.a = z;
-    refused(p);
+// The new number for the field that is bad, and its own for any other.
+fn field(bad: usize, k: usize, new: i64, own: i64) -> i64 {
+    if bad == k {
+        return new;
+    }
+    own
 }
 
-fn bad_e2(z: i64) {
-    say(b"e2 = ", z);
-    let mut p = Parameters::etrs_laea();
-    p.e2 = z;
-    refused(p);
-}
-
-fn bad_lat0(z: i64) {
-    say(b"lat0 = ", z);
-    let mut p = Parameters::etrs_laea();
-    let lat0 = Geodetic(z);
-    p.lat0 = lat0;
-    refused(p);
-}
-
-fn bad_lon0(z: i64) {
-    say(b"lon0 = ", z);
-    let mut p = Parameters::etrs_laea();
-    p.lon0 = z;
-    refused(p);
-}
-
-fn bad_false_easting(z: i64) {
-    say(b"FE = ", z);
-    let mut p = Parameters::etrs_laea();
-    p.false_easting = z;
-    refused(p);
-}
-
-fn bad_false_northing(z: i64) {
-    say(b"FN = ", z);
-    let mut p = Parameters::etrs_laea();
-    p.false_northing = z;
-    refused(p);
-}
-
-// Each coordinate is refused 3.
-fn bad_position(lat: i64, lon: i64) {
+fn bad_field(k: usize, z: i64) {
+    name(k);
+    value(z);
     let p = Parameters::etrs_laea();
-    forward_refused(b"ETRS-LAEA", p, lat, 36000000, 3);
-    forward_refused(b"ETRS-LAEA", p, 187200000, lon, 3);
+    let lat0 = p.lat0;
+    refused(set(
+        field(0, k, z, p.a),
+        field(1, k, z, p.e2),
+        field(2, k, z, lat0.0),
+        field(3, k, z, p.lon0),
+        field(4, k, z, p.false_easting),
+        field(5, k, z, p.false_northing),
+    ));
+}
+
+// Forward or inverse, refused 3.
+fn bad_point(forward: bool, x: i64, y: i64) {
+    name(7);
+    refused_row(forward, Parameters::etrs_laea(), x, y, 3);
+}
+
+// Each coordinate in turn.
+fn bad_position(lat: i64, lon: i64) {
+    bad_point(true, lat, 36000000);
+    bad_point(true, 187200000, lon);
 }
 
 fn bad_plane(z: i64) {
-    let p = Parameters::etrs_laea();
-    inverse_refused(b"ETRS-LAEA", p, z, 321000000, 3);
-    inverse_refused(b"ETRS-LAEA", p, 432100000, z, 3);
+    bad_point(false, z, 321000000);
+    bad_point(false, 432100000, z);
 }
 
 fn every_field(z: i64) {
-    bad_a(z);
-    bad_e2(z);
-    bad_lat0(z);
-    bad_lon0(z);
-    bad_false_easting(z);
-    bad_false_northing(z);
+    bad_field(0, z);
+    bad_field(1, z);
+    bad_field(2, z);
+    bad_field(3, z);
+    bad_field(4, z);
+    bad_field(5, z);
 }
 
 // The least and the greatest i64 in every field and every coordinate.
@@ -92,16 +93,16 @@ pub(crate) fn extremes() {
 
 // The first value that is out, on each side of each limit.
 pub(crate) fn edges() {
-    bad_a(99999999);
-    bad_a(1000000001);
-    bad_e2(-1);
-    bad_e2(10000001);
-    bad_lat0(306000001);
-    bad_lat0(-323999999);
-    bad_lon0(-648000000);
-    bad_lon0(648000001);
-    bad_false_easting(-1000000001);
-    bad_false_northing(1000000001);
+    bad_field(0, 99999999);
+    bad_field(0, 1000000001);
+    bad_field(1, -1);
+    bad_field(1, 10000001);
+    bad_field(2, 306000001);
+    bad_field(2, -323999999);
+    bad_field(3, -648000000);
+    bad_field(3, 648000001);
+    bad_field(4, -1000000001);
+    bad_field(5, 1000000001);
     bad_position(-324000001, -648000001);
     bad_position(324000001, 648000001);
     bad_plane(-5000000001);

@@ -2,34 +2,46 @@
 use crate::rows::forward_row;
 use crate::rows::inverse_row;
 use crate::rows::set;
+use printing::line;
 use projection::parameters::Parameters;
 
-fn both_ways(name: &[u8], p: Parameters) {
-    let lat0 = p.lat0;
-    forward_row(
-        name,
-        p,
-        lat0.0,
-        p.lon0,
-        p.false_easting,
-        p.false_northing,
-        0,
-    );
-    inverse_row(
-        name,
-        p,
-        p.false_easting,
-        p.false_northing,
-        lat0.0,
-        p.lon0,
-        0,
+// The names of the rows, counted from 0.
+fn name(k: usize) {
+    line(
+        b"oblique centre
+southern oblique centre
+equatorial centre
+north polar centre
+north pole at another longitude
+south polar centre
+south pole at another longitude",
+        k,
     );
 }
 
+fn both_ways(k: usize, p: Parameters) {
+    let lat0 = p.lat0;
+    let lat = lat0.0;
+    let lon = p.lon0;
+    let easting = p.false_easting;
+    let northing = p.false_northing;
+    name(k);
+    forward_row(p, lat, lon, easting, northing, 0);
+    name(k);
+    inverse_row(p, easting, northing, lat, lon, 0);
+}
+
+// At a pole every longitude is the centre.
+fn at_pole(k: usize, p: Parameters) {
+    let lat0 = p.lat0;
+    name(k);
+    forward_row(p, lat0.0, 123456789, p.false_easting, p.false_northing, 0);
+}
+
 pub(crate) fn oblique() {
-    both_ways(b"oblique centre", Parameters::etrs_laea());
+    both_ways(0, Parameters::etrs_laea());
     both_ways(
-        b"southern oblique centre",
+        1,
         set(
             637813700,
             6694380,
@@ -43,27 +55,13 @@ pub(crate) fn oblique() {
 
 pub(crate) fn equatorial() {
     both_ways(
-        b"equatorial centre",
+        2,
         set(637813700, 6694380, 0, -647999999, 123456789, -987654321),
     );
 }
 
-// At a pole every longitude is the centre.
-fn at_pole(name: &[u8], p: Parameters) {
-    let lat0 = p.lat0;
-    forward_row(
-        name,
-        p,
-        lat0.0,
-        123456789,
-        p.false_easting,
-        p.false_northing,
-        0,
-    );
-}
-
-pub(crate) fn north_polar() {
-    let p = set(
+pub(crate) fn polar() {
+    let north = set(
         637838800,
         6722670,
         324000000,
@@ -71,12 +69,9 @@ pub(crate) fn north_polar() {
         200000000,
         300000000,
     );
-    both_ways(b"north polar centre", p);
-    at_pole(b"north pole at another longitude", p);
-}
-
-pub(crate) fn south_polar() {
-    let p = set(
+    both_ways(3, north);
+    at_pole(4, north);
+    let south = set(
         637838800,
         6722670,
         -324000000,
@@ -84,6 +79,6 @@ pub(crate) fn south_polar() {
         200000000,
         -300000000,
     );
-    both_ways(b"south polar centre", p);
-    at_pole(b"south pole at another longitude", p);
+    both_ways(5, south);
+    at_pole(6, south);
 }

@@ -1,14 +1,15 @@
-// A row runs one call and prints what was asked, the answer, what was expected and how far off it is.
-use crate::print::pair;
-use crate::print::refusal;
-use crate::print::text;
-use crate::print::verdict;
+// A row runs one call and prints what was asked, the answer, what was expected and how far off it is. Its name is
+// printed before it.
 use crate::sizes::along_meridian;
 use crate::sizes::along_parallel;
 use crate::sizes::gap;
-use libc::STDOUT_FILENO;
+use printing::number;
+use printing::refusal;
+use printing::size;
+use printing::verdict;
+use printing::words;
+use printing::words::word;
 use projection::forward::PlaneAnswer;
-use projection::forward::forward;
 use projection::inverse::GeodeticAnswer;
 use projection::inverse::inverse;
 use projection::latitude::Geodetic;
@@ -33,45 +34,142 @@ pub(crate) fn set(
     }
 }
 
-fn asked(name: &[u8], call: &[u8], x: i64, y: i64) {
-    text(name);
-    pair(call, x, b" ", y);
-    text(b": ");
+// Two numbers and the mark 0, or the number of the refusal.
+pub(crate) struct Answer {
+    pub(crate) mark: u8,
+    pub(crate) x: i64,
+    pub(crate) y: i64,
 }
 
-fn plane(easting: i64, northing: i64) {
-    pair(b"E ", easting, b" N ", northing);
+pub(crate) fn at(x: i64, y: i64) -> Answer {
+    Answer { mark: 0, x, y }
 }
 
-fn position(lat: i64, lon: i64) {
-    pair(b"P ", lat, b" ", lon);
+pub(crate) fn refused(mark: u8) -> Answer {
+    Answer { mark, x: 0, y: 0 }
 }
 
-// Whether neither is above the most that is allowed; both are printed.
-fn off_by(x: u64, y: u64, unit: &[u8], most: u64) {
-    text(b", off by ");
-    io::print_decimal(STDOUT_FILENO, x);
-    text(b" and ");
-    io::print_decimal(STDOUT_FILENO, y);
-    text(unit);
-    text(b", at most ");
-    io::print_decimal(STDOUT_FILENO, most);
-    let mut right = x <= most;
-    if most < y {
+fn plane_answer(found: PlaneAnswer) -> Answer {
+    match found {
+        PlaneAnswer::Plane { easting, northing } => at(easting, northing),
+        PlaneAnswer::Refused(number) => refused(number),
+    }
+}
+
+fn position_answer(found: GeodeticAnswer) -> Answer {
+    match found {
+        GeodeticAnswer::Position {
+            latitude,
+            longitude,
+        } => at(latitude.0, longitude),
+        GeodeticAnswer::Refused(number) => refused(number),
+    }
+}
+
+// Forward or inverse.
+fn call(forward: bool, p: Parameters, x: i64, y: i64) -> Answer {
+    if forward {
+        return plane_answer(projection::forward::forward(p, Geodetic(x), y));
+    }
+    position_answer(inverse(p, x, y))
+}
+
+fn show_plane(easting: i64, northing: i64) {
+    word(words::EASTING);
+    number(easting);
+    word(words::NORTHING);
+    number(northing);
+}
+
+fn show_position(lat: i64, lon: i64) {
+    word(words::POSITION);
+    number(lat);
+    number(lon);
+}
+
+fn show(forward: bool, a: Answer) {
+    if a.mark != 0 {
+        refusal(a.mark);
+        return;
+    }
+    if forward {
+        show_plane(a.x, a.y);
+    } else {
+        show_position(a.x, a.y);
+    }
+}
+
+fn asked(forward: bool, x: i64, y: i64) {
+    if forward {
+        word(words::FORWARD);
+    } else {
+        word(words::INVERSE);
+    }
+    number(x);
+    number(y);
+    word(words::ANSWER);
+}
+
+// The row up to what was expected.
+fn run(forward: bool, p: Parameters, x: i64, y: i64, right: Answer) -> Answer {
+    asked(forward, x, y);
+    let found = call(forward, p, x, y);
+    show(forward, found);
+    word(words::EXPECTED);
+    show(forward, right);
+    found
+}
+
+// How far an answer is from the one expected; a refusal is as far off as can be.
+struct Gaps {
+    x: u64,
+    y: u64,
+}
+
+fn gaps_of(found: Answer, right: Answer) -> Gaps {
+    if found.mark != 0 {
+        return Gaps {
+            x: 2000000000,
+            y: 2000000000,
+        };
+    }
+    Gaps {
+        x: gap(found.x, right.x),
+        y: gap(found.y, right.y),
+    }
+}
+
+fn off_by(gaps: Gaps) {
+    word(words::OFF_BY);
+    size(gaps.x);
+    word(words::AND);
+    size(gaps.y);
+}
+
+// The end of a row that allows for so much in either number.
+fn at_most(gaps: Gaps, most: u64) {
+    word(words::AT_MOST);
+    size(most);
+    let mut right = gaps.x <= most;
+    if most < gaps.y {
         right = false;
     }
     verdict(right);
 }
 
-// A refusal where an answer was expected.
-fn unexpected(n: u8) {
-    refusal(n);
-    verdict(false);
+fn row(forward: bool, p: Parameters, x: i64, y: i64, right: Answer, most: u64) {
+    let off = gaps_of(run(forward, p, x, y, right), right);
+    off_by(off);
+    if forward {
+        word(words::CM);
+    } else {
+        word(words::MAS);
+    }
+    at_most(off, most);
 }
 
 // Forward, with E and N at most `most` cm off.
 pub(crate) fn forward_row(
-    name: &[u8],
     p: Parameters,
     lat: i64,
     lon: i64,
@@ -79,62 +177,11 @@ pub(crate) fn forward_row(
     northing: i64,
     most: u64,
 ) {
-    asked(name, b" forward ", lat, lon);
-    let answer = forward(p, Geodetic(lat), lon);
-    match answer {
-        PlaneAnswer::Plane {
-            easting: e,
-            northing: n,
-        } => {
-            plane(e, n);
-            text(b", expected ");
-            plane(easting, northing);
-            off_by(gap(e, easting), gap(n, northing), b" cm", most);
-        }
-        PlaneAnswer::Refused(n) => unexpected(n),
-    }
-}
-
-// How far the position found is from the one expected, in mas.
-struct Gaps {
-    latitude: u64,
-    longitude: u64,
-}
-
-// Inverse, printed up to what was expected; a refusal is as far off as can be.
-fn inverse_gaps(
-    name: &[u8],
-    p: Parameters,
-    easting: i64,
-    northing: i64,
-    lat: i64,
-    lon: i64,
-) -> Gaps {
-    asked(name, b" inverse ", easting, northing);
-    let answer = inverse(p, easting, northing);
-    let GeodeticAnswer::Position {
-        latitude,
-        longitude,
-    } = answer
-    else {
-        text(b"refused");
-        return Gaps {
-            latitude: 2000000000,
-            longitude: 2000000000,
-        };
-    };
-    position(latitude.0, longitude);
-    text(b", expected ");
-    position(lat, lon);
-    Gaps {
-        latitude: gap(latitude.0, lat),
-        longitude: gap(longitude, lon),
-    }
+    row(true, p, lat, lon, at(easting, northing), most);
 }
 
 // Inverse, with latitude and longitude at most `most` mas off.
 pub(crate) fn inverse_row(
-    name: &[u8],
     p: Parameters,
     easting: i64,
     northing: i64,
@@ -142,13 +189,11 @@ pub(crate) fn inverse_row(
     lon: i64,
     most: u64,
 ) {
-    let gaps = inverse_gaps(name, p, easting, northing, lat, lon);
-    off_by(gaps.latitude, gaps.longitude, b" mas", most);
+    row(false, p, easting, northing, at(lat, lon), most);
 }
 
 // Inverse, with latitude and longitude at most `most` cm off on the ground; `cosine` is that of `lat`.
 pub(crate) fn ground_row(
-    name: &[u8],
     p: Parameters,
     easting: i64,
     northing: i64,
@@ -157,51 +202,19 @@ pub(crate) fn ground_row(
     lon: i64,
     most: u64,
 ) {
-    let gaps = inverse_gaps(name, p, easting, northing, lat, lon);
-    let north = along_meridian(p.a, gaps.latitude);
-    let east = along_parallel(p.a, cosine, gaps.longitude);
-    off_by(north, east, b" cm on the ground", most);
+    let right = at(lat, lon);
+    let off = gaps_of(run(false, p, easting, northing, right), right);
+    let ground = Gaps {
+        x: along_meridian(p.a, off.x),
+        y: along_parallel(p.a, cosine, off.y),
+    };
+    off_by(ground);
+    word(words::CM_ON_THE_GROUND);
+    at_most(ground, most);
 }
 
-// The end of a row that is to be refused.
-fn refused(found: u8, expected: u8) {
-    refusal(found);
-    text(b", expected ");
-    refusal(expected);
-    verdict(found == expected);
-}
-
-// Forward, refused.
-pub(crate) fn forward_refused(name: &[u8], p: Parameters, lat: i64, lon: i64, expected: u8) {
-    asked(name, b" forward ", lat, lon);
-    let answer = forward(p, Geodetic(lat), lon);
-    match answer {
-        PlaneAnswer::Plane { easting, northing } => {
-            plane(easting, northing);
-            verdict(false);
-        }
-        PlaneAnswer::Refused(found) => refused(found, expected),
-    }
-}
-
-// Inverse, refused.
-pub(crate) fn inverse_refused(
-    name: &[u8],
-    p: Parameters,
-    easting: i64,
-    northing: i64,
-    expected: u8,
-) {
-    asked(name, b" inverse ", easting, northing);
-    let answer = inverse(p, easting, northing);
-    match answer {
-        GeodeticAnswer::Position {
-            latitude,
-            longitude,
-        } => {
-            position(latitude.0, longitude);
-            verdict(false);
-        }
-        GeodeticAnswer::Refused(found) => refused(found, expected),
-    }
+// Forward or inverse, refused.
+pub(crate) fn refused_row(forward: bool, p: Parameters, x: i64, y: i64, number: u8) {
+    let found = run(forward, p, x, y, refused(number));
+    verdict(found.mark == number);
 }

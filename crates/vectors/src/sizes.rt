@@ -4,7 +4,7 @@ use integers::magnitude;
 use integers::nearest;
 ghost use Prim.Native.Nat.{_<_, _≤_};
 
-fn cut(n: u64) -> u64
+pub(crate) fn cut(n: u64) -> u64
     ensures { λ r. ⌜ r ≤ 2_000_000_000 ⌝ }
 {
     if 2000000000 < n {
@@ -33,7 +33,7 @@ pub(crate) fn gap(x: i64, y: i64) -> u64 {
 }
 
 // near(x·y/d)
-fn part(x: u64, y: u64, d: u64) -> u64
+pub(crate) fn part(x: u64, y: u64, d: u64) -> u64
     requires { ⌜ (x ≤ 2_000_000_000) × (y ≤ 2_000_000_000) × (0 < d) × (d ≤ 1_000_000_000) ⌝ }
 {
     nearest(x * y, d)

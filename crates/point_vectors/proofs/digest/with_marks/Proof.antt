@@ -1,0 +1,50 @@
+-- `digest::with_marks` ends: each turn takes the next element. Assumes nothing.
+use Prim.Native.Nat.{_≤_, _-_}
+use borrow.Author.Needs.{needs}
+use Rattle.point_vectors.proofs.digest.with_marks.Statement.{statement}
+use Rattle.point_vectors.proofs.digest.with_marks.Tie as tie
+
+abbrev Inv-loop : tie.InvT-loop
+Inv-loop marks found₀ i₀ found i = i ≤ 4_097
+
+abbrev μ-loop : tie.MeasureT-loop
+μ-loop marks found₀ i₀ found i = 4_097 - i
+
+loop-holds : tie.Need-loop-holds Inv-loop μ-loop
+loop-holds c = search needs
+
+element-copy-out-wide : tie.Need-element-copy-out-wide Inv-loop μ-loop
+element-copy-out-wide c = search needs
+
+wide-requires : tie.Need-wide-requires Inv-loop μ-loop
+wide-requires c κs = search needs
+
+add-requires : tie.Need-add-requires Inv-loop μ-loop
+add-requires c κs = search needs
+
+add-i : tie.Need-add-i Inv-loop μ-loop
+add-i c = search needs
+
+loop-less : tie.Need-loop-less Inv-loop μ-loop
+loop-less c = search needs
+
+loop-again : tie.Need-loop-again Inv-loop μ-loop
+loop-again c = search needs
+
+returns : tie.Need-returns Inv-loop μ-loop
+returns c = search needs
+
+pub with-marks-spec : {M : Type 1} → statement M
+with-marks-spec =
+    tie.close
+    (tie.spec
+    Inv-loop
+    μ-loop
+    loop-holds
+    element-copy-out-wide
+    wide-requires
+    add-requires
+    add-i
+    loop-less
+    loop-again
+    returns)

@@ -1,0 +1,97 @@
+// A row of one point in degrees or metres: what was asked, the answer and what was expected, doubles by their bits.
+// Its name is printed before it.
+use crate::doubles::bits;
+use crate::doubles::show_both;
+use points::pairs::GeodeticPair;
+use points::pairs::GeodeticPairAnswer;
+use points::pairs::Marked;
+use points::pairs::PlanePair;
+use points::pairs::PlanePairAnswer;
+use points::single::forward_degrees;
+use points::single::inverse_metres;
+use printing::refusal;
+use printing::verdict;
+use printing::words;
+use printing::words::word;
+use projection::parameters::Parameters;
+
+// An answer that is accepted.
+pub(crate) fn answer(first: f64, second: f64) -> Marked {
+    Marked {
+        mark: 0,
+        first,
+        second,
+    }
+}
+
+// An answer that is refused.
+pub(crate) fn refused(number: u8) -> Marked {
+    Marked {
+        mark: number,
+        first: 0.0,
+        second: 0.0,
+    }
+}
+
+fn show(m: Marked) {
+    if m.mark != 0 {
+        refusal(m.mark);
+    } else {
+        show_both(m.first, m.second);
+    }
+}
+
+// Both numbers alike in every bit, and the mark.
+fn are_alike(m: Marked, n: Marked) -> bool {
+    if m.mark != n.mark {
+        return false;
+    }
+    if bits(m.first) != bits(n.first) {
+        return false;
+    }
+    bits(m.second) == bits(n.second)
+}
+
+// The end of a row.
+pub(crate) fn compare(found: Marked, right: Marked) {
+    word(words::ANSWER);
+    show(found);
+    word(words::EXPECTED);
+    show(right);
+    verdict(are_alike(found, right));
+}
+
+fn forward_answer(p: Parameters, latitude: f64, longitude: f64) -> Marked {
+    let at = GeodeticPair {
+        latitude,
+        longitude,
+    };
+    let found = forward_degrees(p, at);
+    match found {
+        PlanePairAnswer::Metres(pair) => answer(pair.first, pair.second),
+        PlanePairAnswer::Refused(number) => refused(number),
+    }
+}
+
+fn inverse_answer(p: Parameters, first: f64, second: f64) -> Marked {
+    let at = PlanePair { first, second };
+    let found = inverse_metres(p, at);
+    match found {
+        GeodeticPairAnswer::Degrees(pair) => answer(pair.latitude, pair.longitude),
+        GeodeticPairAnswer::Refused(number) => refused(number),
+    }
+}
+
+// Degrees to metres.
+pub(crate) fn degrees_row(p: Parameters, lat: f64, lon: f64, right: Marked) {
+    word(words::DEGREES);
+    show_both(lat, lon);
+    compare(forward_answer(p, lat, lon), right);
+}
+
+// Metres to degrees.
+pub(crate) fn metres_row(p: Parameters, x: f64, y: f64, right: Marked) {
+    word(words::METRES);
+    show_both(x, y);
+    compare(inverse_answer(p, x, y), right);
+}

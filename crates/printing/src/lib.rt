@@ -1,0 +1,123 @@
+// Writes what rows are made of to standard output; a number has a space before it. Each function gives back what it was
+// given to write: no contract can say what is written.
+pub mod words;
+
+use libc::STDOUT_FILENO;
+ghost use mathlib.Core.Path.{_≡_};
+ghost use Prim.Native.Nat.{_≤_};
+ghost use lib.ListN.{length};
+
+fn text(bytes: &[u8]) {
+    io::write_all(STDOUT_FILENO, bytes);
+}
+
+pub fn size(n: u64) -> u64
+    ensures { λ r. ⌜ r ≡ n ⌝ }
+{
+    text(b" ");
+    io::print_decimal(STDOUT_FILENO, n);
+    n
+}
+
+// Sixteen hexadecimal digits.
+pub fn bits(n: u64) -> u64
+    ensures { λ r. ⌜ r ≡ n ⌝ }
+{
+    text(b" ");
+    io::print_hex(STDOUT_FILENO, n, 16);
+    n
+}
+
+pub fn number(n: i64) -> i64
+    ensures { λ r. ⌜ r ≡ n ⌝ }
+{
+    if n < 0 {
+        text(b" -");
+    } else {
+        text(b" ");
+    }
+    io::print_decimal(STDOUT_FILENO, integers::magnitude(n));
+    n
+}
+
+// The end of a line that gives a name its value.
+pub fn value(n: i64) -> i64
+    ensures { λ r. ⌜ r ≡ n ⌝ }
+{
+    text(b" =");
+    number(n);
+    text(b"\n");
+    n
+}
+
+pub fn size_value(n: u64) -> u64
+    ensures { λ r. ⌜ r ≡ n ⌝ }
+{
+    text(b" =");
+    size(n);
+    text(b"\n");
+    n
+}
+
+pub fn refusal(n: u8) -> u8
+    ensures { λ r. ⌜ r ≡ n ⌝ }
+{
+    text(b" refused");
+    size(n as u64);
+    n
+}
+
+// How a row ends.
+pub fn verdict(right: bool) -> bool
+    ensures { λ r. ⌜ r ≡ right ⌝ }
+{
+    if right {
+        text(b": ok\n");
+    } else {
+        text(b": off\n");
+    }
+    right
+}
+
+// Where the line that starts at `start` ends.
+fn line_end(all: &[u8], start: usize) -> usize
+    requires { ⌜ start ≤ length (now all) ⌝ }
+    ensures { λ r. ⌜ (start ≤ r) × (r ≤ length (now (all .entry))) ⌝ }
+{
+    let mut i = start;
+    while i < all.len() {
+        if all[i] == b'\n' {
+            return i;
+        }
+        i += 1;
+    }
+    i
+}
+
+// Where line k starts, counted from 0; past the last line, where the text ends.
+fn line_start(all: &[u8], k: usize) -> usize
+    ensures { λ r. ⌜ r ≤ length (now (all .entry)) ⌝ }
+{
+    let mut start = 0;
+    let mut n = 0;
+    while n < k {
+        let end = line_end(all, start);
+        if end == all.len() {
+            return end;
+        }
+        start = end + 1;
+        n += 1;
+    }
+    start
+}
+
+// Line k of a text, counted from 0, without its end. A program has the names of its rows in one text: lent one by one
+// they make its check long.
+pub fn line(all: &[u8], k: usize) -> usize
+    ensures { λ r. ⌜ r ≡ k ⌝ }
+{
+    let start = line_start(all, k);
+    let end = line_end(all, start);
+    text(&all[start..end]);
+    k
+}
