@@ -1,4 +1,4 @@
--- How long an answer's line is at most: a number of 11 digits with its minus has 12 bytes, a refusal number 1. Assumes nothing.
+-- How long an answer's line is at most: a number of ten digits with its minus has 11 bytes, a refusal number 1. Assumes nothing.
 use mathlib.Core.Path.{_≡_, refl}
 use mathlib.Core.Bool.{Bool, true, false, cond}
 use mathlib.Core.List.{List, [], _∷_}
@@ -16,10 +16,11 @@ use Rattle.projection.specs.declared.inverse.GeodeticAnswer.the-variants.{Posit
 use Rattle.projection.specs.ParameterSet.{etrsLaea}
 use Rattle.projection.specs.ForwardSteps.{forwardOf}
 use Rattle.projection.specs.InverseSteps.{inverseOf}
+use Rattle.projection.proofs.InverseLaws.{plane-sizes}
 use Rattle.projection_laws.specs.Theorems.{OneOfThree}
-use Rattle.projection_laws.proofs.Sizes.{plane-size}
 use Rattle.projection_laws.proofs.Ranges.{position-in-range}
 use Rattle.projection_laws.proofs.Refusals.{forward-numbers, inverse-numbers}
+use Rattle.round_trip.proofs.Limits.{forward-on-plane}
 use Rattle.lines.specs.declared.numbers.Numeral.{Numeral}
 use Rattle.lines.specs.declared.numbers.Numeral.the-variants.{Number, Other}
 use Rattle.lines.specs.declared.line.Request.{Request}
@@ -39,15 +40,15 @@ refused-size n h = omega (arith, decimal-length 0 n (one-digit n h))
 -- of what is answered to a position and to a plane point
 plane-text-size : (a : PlaneAnswer) (φ lon : ℤ) → forwardOf etrsLaea (record { 0 = φ }) lon ≡ a → length (planeText a) ≤ 31
 plane-text-size (Plane E N) φ lon e =
-    let size = plane-size etrsLaea (record { 0 = φ }) lon E N e in
-    rw length-append (omega (arith, text-size 10 E (omega arith), text-size 10 N (omega arith)))
+    let size = plane-sizes E N (forward-on-plane etrsLaea (record { 0 = φ }) lon E N e) in
+    rw length-append (omega (arith, text-size 9 E (omega arith), text-size 9 N (omega arith)))
 plane-text-size (Refused n) φ lon e = refused-size n (forward-numbers etrsLaea (record { 0 = φ }) lon n e)
 
 position-text-size : (a : GeodeticAnswer) (E N : ℤ) → inverseOf etrsLaea E N ≡ a → length (positionText a) ≤ 31
 position-text-size (Position φ lon) E N e =
     let range = position-in-range etrsLaea E N φ lon e in
     rw length-append
-    (omega (arith, text-size 10 (φ .0) (omega arith), text-size 10 lon (omega (arith, abs-between lon (<ℤ-≤ℤ (range .1)) (range .2)))))
+    (omega (arith, text-size 9 (φ .0) (omega arith), text-size 9 lon (omega (arith, abs-between lon (<ℤ-≤ℤ (range .1)) (range .2)))))
 position-text-size (NotFound n) E N e = refused-size n (inverse-numbers etrsLaea E N n e)
 
 pub request-size : (r : Request) → length (requestText r) ≤ 31

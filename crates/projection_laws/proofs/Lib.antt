@@ -5,4 +5,3 @@ pub mod Edge
 pub mod Ranges
 pub mod Refusals
 pub mod Witnesses
-pub mod Sizes
