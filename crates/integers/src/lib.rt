@@ -1,6 +1,6 @@
 // The two words of document 01 on whole numbers: rounded division and the integer root.
 ghost use mathlib.Core.Path.{_≡_};
-ghost use Prim.Native.Nat.{_+_, _/_, _<_, _^_};
+ghost use Prim.Native.Nat.{_+_, _-_, _/_, _<_, _^_};
 ghost use lib.IntN.{natAbs};
 ghost use Rattle.integers.specs.Near.{near, nearest, signed};
 ghost use Rattle.integers.specs.Root.{root};
@@ -14,6 +14,13 @@ pub fn magnitude(n: i64) -> u64
     } else {
         n as u64
     }
+}
+
+// By how much a exceeds b; 0 where it does not.
+pub fn excess(a: u64, b: u64) -> u64
+    ensures { λ r. ⌜ r ≡ a - b ⌝ }
+{
+    if b < a { a - b } else { 0 }
 }
 
 // The number of this size and sign.

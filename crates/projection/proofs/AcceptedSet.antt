@@ -1,7 +1,7 @@
 -- What acceptance says of each field of a set, as bounds.
 -- Assumes nothing.
-use mathlib.Core.Path.{_≡_, refl, subst}
-use mathlib.Core.Bool.{Bool, true, false, _&&_, _||_}
+use mathlib.Core.Path.{_≡_, refl}
+use mathlib.Core.Bool.{Bool, true, false, _||_}
 use mathlib.Core.Logic.{_⊎_, inl, inr}
 use Prim.Native.Nat.{ℕ, _≤_}
 use native.Mathlib.Omega.{arith}
@@ -9,13 +9,10 @@ use lib.Dec.{lit≤}
 use lib.IntN.{ℤ, pos, negsuc, negℤ, natAbs}
 use lib.Signed.{_≤ℤ_, _<ℤ_, leZ, ltZ}
 use Rattle.proof_kit.proofs.Order.{order, ≤ℤ-antisym, <ℤ-≤ℤ, leZ-true, ltZ-true, abs-between}
+pub use Rattle.integers.proofs.Greatest.{both}
 use Rattle.trig.specs.Sine.{right-angle, half-turn}
 use Rattle.projection.specs.declared.parameters.Parameters.{Parameters}
 use Rattle.projection.specs.ParameterSet.{within, same, polar, accepted-a, accepted-e2, accepted-lat0, accepted-lon0, accepted-false, firstRefusal, setRefusal}
-
-pub both : (a b : Bool) → (a && b) ≡ true → (a ≡ true) × (b ≡ true)
-both true b e = (refl, e)
-both false b e = let z : _≡_ {A = Bool} false true = e in (e, subst (λ (x : Bool). b ≡ x) z (cc))
 
 either : (a b : Bool) → (a || b) ≡ true → (a ≡ true) ⊎ (b ≡ true)
 either true b e = inl refl

@@ -1,5 +1,6 @@
 // Sine, cosine and angle of document 01, on whole numbers: angles in milliarcseconds (mas), sines in
 // billionths. Every function takes the table lent: see sine_table::table.
+use integers::excess;
 use integers::magnitude;
 use integers::nearest;
 use integers::signed;
@@ -7,7 +8,7 @@ ghost use mathlib.Core.Path.{_≡_};
 ghost use mathlib.Core.Bool.{true};
 ghost use Prim.Native.Nat.{_<_, _≤_, _^_};
 ghost use lib.IntN.{natAbs};
-ghost use Rattle.integers.specs.Greatest.{greatest};
+ghost use Rattle.integers.specs.Greatest.{greatest, bracketed};
 ghost use Rattle.sine_table.specs.Table.{IsTable, entry};
 ghost use Rattle.trig.specs.Sine.{right-angle, half-turn, first-quarter, first-half, sine, cosine};
 ghost use Rattle.trig.specs.Angle.{under, angle};
@@ -92,6 +93,87 @@ fn search(t: &[u32; 5401], p: u64, q: u64, low: u64, high: u64) -> u64
     }
 }
 
+// Whether the greatest angle that is under lies from `low` to `high`: `low` is under, and the angle
+// after `high` is not or is past 90°.
+fn is_bracketed(t: &[u32; 5401], p: u64, q: u64, low: u64, high: u64) -> bool
+    requires { ⌜ IsTable (now t) × (p ≤ 18_000_000_000) × (q ≤ 18_000_000_000) × (low ≤ right-angle) × (high ≤ right-angle) ⌝ }
+    ensures { λ r. ⌜ r ≡ bracketed (under p q) right-angle low high ⌝ }
+{
+    if !is_under(t, p, q, low) {
+        return false;
+    }
+    if high == 324000000 {
+        return true;
+    }
+    !is_under(t, p, q, high + 1)
+}
+
+// The greatest angle that is under: searches the span of this margin about the estimate, or where
+// that does not hold it a wider one, up to the whole quarter.
+fn search_near(t: &[u32; 5401], p: u64, q: u64, estimate: u64, margin: u64) -> u64
+    requires { ⌜ IsTable (now t) × (p ≤ 18_000_000_000) × (q ≤ 18_000_000_000) × (estimate ≤ right-angle) × (margin ≤ 6_000_000_000) ⌝ }
+    ensures { λ r. ⌜ r ≡ greatest (under p q) right-angle ⌝ }
+{
+    let low = excess(estimate, margin);
+    let high = 324000000 - excess(324000000, estimate + margin);
+    if is_bracketed(t, p, q, low, high) {
+        return search(t, p, q, low, high);
+    }
+    search_near(t, p, q, estimate, 16 * margin + 4)
+}
+
+// The part x/2^14 of a.
+fn part(a: u64, x: u64) -> u64
+    requires { ⌜ (a ≤ 4_000_000) × (x ≤ 16_384) ⌝ }
+    ensures { λ r. ⌜ r ≤ a ⌝ }
+{
+    a * x / 16384
+}
+
+// lower/upper in parts of 2^14.
+fn ratio(lower: u64, upper: u64) -> u64
+    requires { ⌜ (lower ≤ upper) × (upper ≤ 18_000_000_000) ⌝ }
+    ensures { λ r. ⌜ r ≤ 16_384 ⌝ }
+{
+    lower * 16384 / (upper + 1)
+}
+
+// The angle from 0 to 45° whose tangent is x/2^14, to within 4 minutes: x − x³/3 + x⁵/5 with
+// coefficients fitted to that span, in 1,024ths of a minute.
+fn arctangent_minutes(x: u64) -> u64
+    requires { ⌜ x ≤ 16_384 ⌝ }
+    ensures { λ k. ⌜ k ≤ 5400 ⌝ }
+{
+    let square = part(x, x);
+    part(3503912 - part(1016263 - part(279293, square), square), x) / 1024
+}
+
+// angle(p, q) to within 4 minutes.
+fn estimate_minutes(p: u64, q: u64) -> u64
+    requires { ⌜ (p ≤ 18_000_000_000) × (q ≤ 18_000_000_000) ⌝ }
+    ensures { λ k. ⌜ k ≤ 5400 ⌝ }
+{
+    let lower = p - excess(p, q);
+    let upper = q + excess(p, q);
+    let k = arctangent_minutes(ratio(lower, upper));
+    if q <= p { k } else { 5400 - k }
+}
+
+// angle(p, q), mostly to the mas where p or q is large. The part of it past minute k has the tangent
+// (cosine(k)·q − sine(k)·p)/(cosine(k)·p + sine(k)·q), and one radian has 206,264,806 mas. Ten
+// minutes are added on the way, so that nothing is negative. Nothing rests on its precision.
+fn estimate(t: &[u32; 5401], p: u64, q: u64) -> u64
+    requires { ⌜ IsTable (now t) × (p ≤ 18_000_000_000) × (q ≤ 18_000_000_000) ⌝ }
+    ensures { λ r. ⌜ r ≤ right-angle ⌝ }
+{
+    let k = estimate_minutes(p, q);
+    let s = minute_sine(t, k);
+    let c = minute_sine(t, 5400 - k);
+    let mas = c * p / 206264806 + s * q / 206264806 + 1;
+    let theta = 60000 * k + excess(c * q + 600000 * mas, s * p) / mas;
+    324000000 - excess(324000000, excess(theta, 600000))
+}
+
 // angle(p, q): the angle from 0 to 90° whose sine and cosine are as q and p.
 pub fn angle(t: &[u32; 5401], p: u64, q: u64) -> u64
     requires { ⌜ IsTable (now t) × (p ≤ 18_000_000_000) × (q ≤ 18_000_000_000) ⌝ }
@@ -101,5 +183,5 @@ pub fn angle(t: &[u32; 5401], p: u64, q: u64) -> u64
     if p + q == 0 {
         return 0;
     }
-    search(t, p, q, 0, 324000000)
+    search_near(t, p, q, estimate(t, p, q), 0)
 }
