@@ -1,9 +1,9 @@
 // Reads lines from standard input and answers each on standard output, for ETRS-LAEA in whole units.
 use libc::STDIN_FILENO;
 use libc::STDOUT_FILENO;
-use projection::constants::Constants;
-use projection::constants::constants_of;
-use projection::parameters::Parameters;
+use ellipsoid::constants::Constants;
+use ellipsoid::constants::constants_of;
+use ellipsoid::parameters::Parameters;
 use splitter::pieces::Carried;
 use splitter::pieces::answer_last;
 use splitter::pieces::answer_piece;
@@ -12,8 +12,8 @@ ghost use mathlib.Core.Path.{_≡_};
 ghost use Prim.Native.Nat.{_≤_};
 ghost use lib.ListN.{length};
 ghost use Rattle.sine_table.specs.Table.{IsTable};
-ghost use Rattle.projection.specs.ParameterSet.{etrsLaea};
-ghost use Rattle.projection.specs.Derived.{constantsOf};
+ghost use Rattle.ellipsoid.specs.ParameterSet.{etrsLaea};
+ghost use Rattle.ellipsoid.specs.Derived.{constantsOf};
 
 // The part of a line that is carried to the next turn, and whether there is one.
 struct Turn {

@@ -9,8 +9,8 @@ use lib.IntN.{ℤ}
 use lib.Dec.{eqb, leb}
 use lib.Ieee.{Float}
 use lib.ListN.{length}
-use Rattle.projection.specs.declared.parameters.Parameters.{Parameters}
-use Rattle.projection.specs.ParameterSet.{unless, setRefusal}
+use Rattle.ellipsoid.specs.declared.parameters.Parameters.{Parameters}
+use Rattle.ellipsoid.specs.ParameterSet.{unless, setRefusal}
 use Rattle.projection.specs.Answers.{firstOf}
 use Rattle.points.specs.declared.pairs.Marked.{Marked}
 use Rattle.points.specs.declared.lists.ListAnswer.{ListAnswer}

@@ -6,7 +6,7 @@ use projection::forward::PlaneAnswer;
 use projection::forward::forward;
 use projection::inverse::GeodeticAnswer;
 use projection::inverse::inverse;
-use projection::latitude::Geodetic;
+use ellipsoid::latitude::Geodetic;
 ghost use Rattle.cells.specs.Cells.{cellTold};
 ghost use Rattle.projection.specs.Answers.{forwardTold, inverseTold};
 ghost use Rattle.laea_c.specs.Calls.{setOf, Answered, AnswersWhole};

@@ -8,10 +8,10 @@ use lib.IntN.{ℤ, pos}
 use mir.Syntax.{w64}
 use mir.Val.{toZ}
 use mir.Facts.{toZ-pos}
-use Rattle.projection.specs.declared.parameters.Parameters.{Parameters}
+use Rattle.ellipsoid.specs.declared.parameters.Parameters.{Parameters}
 use Rattle.projection.specs.declared.forward.PlaneAnswer.{PlaneAnswer}
 use Rattle.projection.specs.declared.inverse.GeodeticAnswer.{GeodeticAnswer}
-use Rattle.projection.specs.ParameterSet.{within, same, polar, accepted-a, accepted-e2, accepted-lat0, accepted-lon0, accepted-false, firstRefusal, setRefusal, etrsLaea}
+use Rattle.ellipsoid.specs.ParameterSet.{within, same, polar, accepted-a, accepted-e2, accepted-lat0, accepted-lon0, accepted-false, firstRefusal, setRefusal, etrsLaea}
 use Rattle.projection.specs.ForwardSteps.{forwardPoint}
 use Rattle.projection.specs.InverseSteps.{inversePoint}
 use Rattle.projection.proofs.ForwardLaws.{forward-of-accepted}

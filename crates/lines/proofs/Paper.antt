@@ -4,7 +4,7 @@ use mathlib.Core.Path.{_≡_, refl, ap, _∙_}
 use mathlib.Core.Bool.{false}
 use lib.Dec.{lit≤}
 use lib.IntN.{pos, negℤ}
-use Rattle.projection.specs.ParameterSet.{within, etrsLaea}
+use Rattle.ellipsoid.specs.ParameterSet.{within, etrsLaea}
 use Rattle.projection.specs.ForwardSteps.{on-globe}
 use Rattle.projection.proofs.ForwardLaws.{forward-off-globe, forward-of-accepted}
 use Rattle.projection_laws.proofs.Centre.{centre-plane, centre-position, opposite-refused}

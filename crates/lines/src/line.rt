@@ -2,21 +2,21 @@
 use crate::numbers::Numeral;
 use crate::numbers::put_number;
 use crate::numbers::read_number;
-use projection::constants::Constants;
-use projection::constants::constants_of;
+use ellipsoid::constants::Constants;
+use ellipsoid::constants::constants_of;
 use projection::forward::PlaneAnswer;
 use projection::forward::forward_point;
 use projection::inverse::GeodeticAnswer;
 use projection::inverse::inverse_point;
-use projection::latitude::Geodetic;
-use projection::parameters::Parameters;
+use ellipsoid::latitude::Geodetic;
+use ellipsoid::parameters::Parameters;
 ghost use mathlib.Core.Path.{_≡_};
 ghost use Prim.Native.Nat.{_+_, _≤_};
 ghost use mathlib.Core.List.{_++_};
 ghost use lib.ListN.{length};
 ghost use Rattle.sine_table.specs.Table.{IsTable};
-ghost use Rattle.projection.specs.ParameterSet.{etrsLaea};
-ghost use Rattle.projection.specs.Derived.{constantsOf};
+ghost use Rattle.ellipsoid.specs.ParameterSet.{etrsLaea};
+ghost use Rattle.ellipsoid.specs.Derived.{constantsOf};
 ghost use Rattle.lines.specs.Numbers.{numberOf, numberText, written};
 ghost use Rattle.lines.specs.Lines.{fieldOf, afterField, byLetter, pairText, planeText, positionText, requestText, answerText, answerLine};
 

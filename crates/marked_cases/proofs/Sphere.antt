@@ -15,12 +15,12 @@ use Rattle.integers.proofs.Squares.{root-is}
 use Rattle.sine_table.specs.Table.{unit}
 use Rattle.trig.specs.Sine.{sine, cosine}
 use Rattle.trig.proofs.Interface.{sine-zero, sine-right, cosine-zero, cosine-right}
-use Rattle.projection.specs.declared.latitude.AuthalicSeries.{AuthalicSeries}
-use Rattle.projection.specs.declared.constants.Constants.{Constants}
+use Rattle.ellipsoid.specs.declared.latitude.AuthalicSeries.{AuthalicSeries}
+use Rattle.ellipsoid.specs.declared.constants.Constants.{Constants}
 use Rattle.projection.specs.declared.forward.PlaneAnswer.the-variants.{Plane}
-use Rattle.projection.specs.ParameterSet.{within, same, polar, accepted-a, accepted-e2, accepted-lat0, accepted-lon0, accepted-false, firstRefusal, setRefusal}
-use Rattle.projection.specs.Latitude.{coefficients, terms, rounded, betaMas}
-use Rattle.projection.specs.Derived.{U, to-mas, e4, e6, W, J, k2, k4, k6, seriesOf, β0, S0, C0, «V», m, D, Rq, RD, RN, constantsOf}
+use Rattle.ellipsoid.specs.ParameterSet.{within, same, polar, accepted-a, accepted-e2, accepted-lat0, accepted-lon0, accepted-false, firstRefusal, setRefusal}
+use Rattle.ellipsoid.specs.Latitude.{coefficients, terms, rounded, betaMas}
+use Rattle.ellipsoid.specs.Derived.{U, to-mas, e4, e6, W, J, k2, k4, k6, seriesOf, β0, S0, C0, «V», m, D, Rq, RD, RN, constantsOf}
 use Rattle.projection.specs.ForwardSteps.{H, b, c, u, v, w, G, dE, dN, nearness, near-enough, on-globe, forwardOf}
 use Rattle.projection.proofs.ForwardLaws.{forward-plane, forward-of-accepted}
 use Rattle.marked_cases.specs.Cases.{sphere}

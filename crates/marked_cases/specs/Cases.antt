@@ -9,7 +9,7 @@ use Rattle.floats.specs.Units.{degree, metre, wholeOf}
 use Rattle.sine_table.specs.Table.{entry}
 use Rattle.trig.specs.Sine.{sine}
 use Rattle.trig.specs.Angle.{angle}
-use Rattle.projection.specs.declared.parameters.Parameters.{Parameters}
+use Rattle.ellipsoid.specs.declared.parameters.Parameters.{Parameters}
 use Rattle.projection.specs.declared.forward.PlaneAnswer.{PlaneAnswer}
 use Rattle.projection.specs.declared.forward.PlaneAnswer.the-variants.{Plane}
 use Rattle.projection.specs.ForwardSteps.{forwardOf}

@@ -10,7 +10,7 @@ use crate::sets::etrs_laea;
 use crate::sets::no_set;
 use crate::sets::sphere;
 use printing::line;
-use projection::parameters::Parameters;
+use ellipsoid::parameters::Parameters;
 
 // The names of the rows, counted from 0.
 fn name(k: usize) {

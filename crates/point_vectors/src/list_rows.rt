@@ -17,7 +17,7 @@ use printing::size;
 use printing::verdict;
 use printing::words;
 use printing::words::word;
-use projection::parameters::Parameters;
+use ellipsoid::parameters::Parameters;
 use std::num::nearest_u64_to_f64;
 ghost use mathlib.Core.Path.{_≡_};
 ghost use Prim.Native.Nat.{_≤_};

@@ -5,7 +5,7 @@ use crate::list_rows::list_row;
 use crate::sets::etrs_laea;
 use crate::sets::no_set;
 use printing::line;
-use projection::parameters::Parameters;
+use ellipsoid::parameters::Parameters;
 ghost use Prim.Native.Nat.{_≤_};
 
 // The names of the rows, counted from 0.

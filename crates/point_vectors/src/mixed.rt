@@ -11,7 +11,7 @@ use printing::size;
 use printing::verdict;
 use printing::words;
 use printing::words::word;
-use projection::parameters::Parameters;
+use ellipsoid::parameters::Parameters;
 
 type Numbers = [f64; 8];
 

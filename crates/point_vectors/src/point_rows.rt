@@ -13,7 +13,7 @@ use printing::refusal;
 use printing::verdict;
 use printing::words;
 use printing::words::word;
-use projection::parameters::Parameters;
+use ellipsoid::parameters::Parameters;
 
 // An answer that is accepted.
 pub(crate) fn answer(first: f64, second: f64) -> Marked {

@@ -1,6 +1,6 @@
 // The sets that are run.
-use projection::latitude::Geodetic;
-use projection::parameters::Parameters;
+use ellipsoid::latitude::Geodetic;
+use ellipsoid::parameters::Parameters;
 
 pub(crate) fn etrs_laea() -> Parameters {
     Parameters::etrs_laea()

@@ -8,10 +8,10 @@ use native.Mathlib.Omega.{arith}
 use lib.Dec.{eqb, leb}
 use lib.Ieee.{Float}
 use lib.ListN.{length}
-use Rattle.projection.specs.declared.parameters.Parameters.{Parameters}
-use Rattle.projection.specs.ParameterSet.{unless, setRefusal}
+use Rattle.ellipsoid.specs.declared.parameters.Parameters.{Parameters}
+use Rattle.ellipsoid.specs.ParameterSet.{unless, setRefusal}
 use Rattle.projection.specs.Answers.{firstOf}
-use Rattle.projection.proofs.AcceptedSet.{both}
+use Rattle.ellipsoid.proofs.AcceptedSet.{both}
 use Rattle.points.specs.declared.pairs.Marked.{Marked}
 use Rattle.points.specs.declared.lists.ListAnswer.the-variants.{Count, Refused}
 use Rattle.points.specs.Lists.{firsts, seconds, marks, lengthRefusal, listRefusal, zeros, Listed}

@@ -5,12 +5,12 @@ use Prim.Native.Nat.{ℕ, zero, suc}
 use lib.IntN.{pos}
 use lib.Ieee.{Float, div, ofInt}
 use Rattle.floats.specs.Units.{degree, metre, floatOf}
-use Rattle.projection.specs.declared.parameters.Parameters.{Parameters}
+use Rattle.ellipsoid.specs.declared.parameters.Parameters.{Parameters}
 use Rattle.projection.specs.declared.forward.PlaneAnswer.{PlaneAnswer}
 use Rattle.projection.specs.declared.forward.PlaneAnswer.the-variants.{Plane, Refused as PlaneRefused}
 use Rattle.projection.specs.declared.inverse.GeodeticAnswer.{GeodeticAnswer}
 use Rattle.projection.specs.declared.inverse.GeodeticAnswer.the-variants.{Position, Refused as GeodeticRefused}
-use Rattle.projection.specs.ParameterSet.{unless, setRefusal}
+use Rattle.ellipsoid.specs.ParameterSet.{unless, setRefusal}
 use Rattle.projection.specs.ForwardSteps.{forwardOf}
 use Rattle.projection.specs.InverseSteps.{inverseOf}
 use Rattle.projection.specs.Answers.{Told, firstOf, plane-told, geodetic-told}

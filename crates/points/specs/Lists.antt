@@ -6,8 +6,8 @@ use mathlib.Core.List.{List, [], _∷_, map}
 use lib.Dec.{eqb, leb}
 use lib.Ieee.{Float}
 use lib.ListN.{length}
-use Rattle.projection.specs.declared.parameters.Parameters.{Parameters}
-use Rattle.projection.specs.ParameterSet.{unless, setRefusal}
+use Rattle.ellipsoid.specs.declared.parameters.Parameters.{Parameters}
+use Rattle.ellipsoid.specs.ParameterSet.{unless, setRefusal}
 use Rattle.projection.specs.Answers.{firstOf}
 use Rattle.points.specs.declared.pairs.GeodeticPair.{GeodeticPair}
 use Rattle.points.specs.declared.pairs.PlanePair.{PlanePair}

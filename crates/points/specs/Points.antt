@@ -5,13 +5,13 @@ use lib.IntN.{ℤ}
 use lib.Ieee.{Float}
 use Rattle.floats.specs.Units.{degree, metre, wholeOf, floatOf}
 use Rattle.floats.specs.Limits.{isFinite, within, latitudeLimit, longitudeLimit, planeLimit}
-use Rattle.projection.specs.declared.latitude.Geodetic.{Geodetic}
-use Rattle.projection.specs.declared.parameters.Parameters.{Parameters}
+use Rattle.ellipsoid.specs.declared.latitude.Geodetic.{Geodetic}
+use Rattle.ellipsoid.specs.declared.parameters.Parameters.{Parameters}
 use Rattle.projection.specs.declared.forward.PlaneAnswer.{PlaneAnswer}
 use Rattle.projection.specs.declared.forward.PlaneAnswer.the-variants.{Plane, Refused as PlaneRefused}
 use Rattle.projection.specs.declared.inverse.GeodeticAnswer.{GeodeticAnswer}
 use Rattle.projection.specs.declared.inverse.GeodeticAnswer.the-variants.{Position, Refused as GeodeticRefused}
-use Rattle.projection.specs.ParameterSet.{setRefusal}
+use Rattle.ellipsoid.specs.ParameterSet.{setRefusal}
 use Rattle.projection.specs.ForwardSteps.{forwardOf}
 use Rattle.projection.specs.InverseSteps.{inverseOf}
 use Rattle.points.specs.declared.pairs.GeodeticPair.{GeodeticPair}

@@ -4,8 +4,8 @@ use mathlib.Core.Bool.{false}
 use lib.IntN.{pos}
 use lib.Ieee.{Float, fin}
 use Rattle.floats.specs.Units.{degree, metre, floatOf}
-use Rattle.projection.specs.declared.parameters.Parameters.{Parameters}
-use Rattle.projection.specs.ParameterSet.{unless, setRefusal}
+use Rattle.ellipsoid.specs.declared.parameters.Parameters.{Parameters}
+use Rattle.ellipsoid.specs.ParameterSet.{unless, setRefusal}
 use Rattle.projection.specs.Answers.{Told, firstOf, forwardTold, inverseTold}
 use Rattle.points.specs.declared.pairs.GeodeticPair.{GeodeticPair}
 use Rattle.points.specs.declared.pairs.PlanePair.{PlanePair}

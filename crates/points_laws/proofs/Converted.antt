@@ -6,13 +6,13 @@ use Prim.Native.Nat.{ℕ, zero, suc, _≤_}
 use lib.IntN.{ℤ, pos, natAbs}
 use Rattle.proof_kit.proofs.Order.{<ℤ-≤ℤ, abs-between}
 use Rattle.floats.proofs.Coordinates.{latitude, longitude, plane, float-finite, float-back}
-use Rattle.projection.specs.declared.latitude.Geodetic.{Geodetic}
-use Rattle.projection.specs.declared.parameters.Parameters.{Parameters}
+use Rattle.ellipsoid.specs.declared.latitude.Geodetic.{Geodetic}
+use Rattle.ellipsoid.specs.declared.parameters.Parameters.{Parameters}
 use Rattle.projection.specs.declared.forward.PlaneAnswer.{PlaneAnswer}
 use Rattle.projection.specs.declared.forward.PlaneAnswer.the-variants.{Plane, Refused as PlaneRefused}
 use Rattle.projection.specs.declared.inverse.GeodeticAnswer.{GeodeticAnswer}
 use Rattle.projection.specs.declared.inverse.GeodeticAnswer.the-variants.{Position, Refused as GeodeticRefused}
-use Rattle.projection.specs.ParameterSet.{setRefusal}
+use Rattle.ellipsoid.specs.ParameterSet.{setRefusal}
 use Rattle.projection.specs.ForwardSteps.{forwardOf}
 use Rattle.projection.specs.InverseSteps.{inverseOf}
 use Rattle.projection.proofs.InverseLaws.{plane-sizes}

@@ -5,8 +5,8 @@ use Prim.Native.Nat.{ℕ, zero, suc, _<_}
 use native.Mathlib.Omega.{arith}
 use lib.Ieee.{Float, nan}
 use lib.ListN.{length, getD}
-use Rattle.projection.specs.declared.parameters.Parameters.{Parameters}
-use Rattle.projection.specs.ParameterSet.{setRefusal}
+use Rattle.ellipsoid.specs.declared.parameters.Parameters.{Parameters}
+use Rattle.ellipsoid.specs.ParameterSet.{setRefusal}
 use Rattle.projection.specs.Answers.{firstOf}
 use Rattle.points.specs.declared.pairs.Marked.{Marked}
 use Rattle.points.specs.declared.lists.ListAnswer.{ListAnswer}

@@ -7,11 +7,11 @@ use native.Mathlib.Omega.{arith}
 use lib.IntN.{pos}
 use lib.Ieee.{Float, nan}
 use lib.ListN.{length, getD}
-use Rattle.projection.specs.declared.parameters.Parameters.{Parameters}
+use Rattle.ellipsoid.specs.declared.parameters.Parameters.{Parameters}
 use Rattle.projection.specs.declared.forward.PlaneAnswer.{PlaneAnswer}
 use Rattle.projection.specs.declared.forward.PlaneAnswer.the-variants.{Plane, Refused as PlaneRefused}
 use Rattle.projection.specs.declared.inverse.GeodeticAnswer.{GeodeticAnswer}
-use Rattle.projection.specs.ParameterSet.{setRefusal}
+use Rattle.ellipsoid.specs.ParameterSet.{setRefusal}
 use Rattle.projection.specs.ForwardSteps.{forwardOf}
 use Rattle.projection.specs.InverseSteps.{inverseOf}
 use Rattle.projection_laws.specs.Theorems.{OneOfThree}

@@ -11,7 +11,7 @@ use Rattle.projection.specs.declared.forward.PlaneAnswer.{PlaneAnswer}
 use Rattle.projection.specs.declared.forward.PlaneAnswer.the-variants.{Plane, Refused}
 use Rattle.projection.specs.declared.inverse.GeodeticAnswer.{GeodeticAnswer}
 use Rattle.projection.specs.declared.inverse.GeodeticAnswer.the-variants.{Position, Refused as NotFound}
-use Rattle.projection.specs.ParameterSet.{within as within-limits, same, polar, accepted-a, accepted-e2, accepted-lat0, accepted-lon0, accepted-false, firstRefusal, setRefusal, etrsLaea}
+use Rattle.ellipsoid.specs.ParameterSet.{within as within-limits, same, polar, accepted-a, accepted-e2, accepted-lat0, accepted-lon0, accepted-false, firstRefusal, setRefusal, etrsLaea}
 use Rattle.projection.specs.ForwardSteps.{forwardOf}
 use Rattle.projection.specs.InverseSteps.{inverseOf}
 use Rattle.projection.specs.Answers.{Told, plane-told, geodetic-told}

@@ -6,7 +6,7 @@ use lib.IntN.{pos, natAbs}
 use lib.Signed.{_≤ℤ_}
 use lib.Ieee.{Float, nan}
 use lib.ListN.{length, getD}
-use Rattle.projection.specs.declared.parameters.Parameters.{Parameters}
+use Rattle.ellipsoid.specs.declared.parameters.Parameters.{Parameters}
 use Rattle.projection.specs.declared.inverse.GeodeticAnswer.the-variants.{Position}
 use Rattle.projection.specs.ForwardSteps.{nearness}
 use Rattle.round_trip.specs.RoundTrip.{farthest-latitude, least-nearness, latitude-bound, gap-bound, CloseTo}

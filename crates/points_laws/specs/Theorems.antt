@@ -7,10 +7,10 @@ use lib.IntN.{ℤ, pos, negℤ, natAbs}
 use lib.Ieee.{Float, nan, fin}
 use lib.ListN.{length, getD, replicate}
 use Rattle.floats.specs.Limits.{isFinite}
-use Rattle.projection.specs.declared.parameters.Parameters.{Parameters}
+use Rattle.ellipsoid.specs.declared.parameters.Parameters.{Parameters}
 use Rattle.projection.specs.declared.forward.PlaneAnswer.the-variants.{Plane}
 use Rattle.projection.specs.declared.inverse.GeodeticAnswer.the-variants.{Position}
-use Rattle.projection.specs.ParameterSet.{setRefusal, etrsLaea}
+use Rattle.ellipsoid.specs.ParameterSet.{setRefusal, etrsLaea}
 use Rattle.projection.specs.ForwardSteps.{forwardOf}
 use Rattle.projection.specs.InverseSteps.{inverseOf}
 use Rattle.projection_laws.specs.Theorems.{sizeless}

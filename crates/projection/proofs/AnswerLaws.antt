@@ -3,14 +3,14 @@ use mathlib.Core.Path.{_≡_, refl}
 use mathlib.Core.Bool.{Bool, true, false, cond}
 use Prim.Native.Nat.{ℕ, zero, suc}
 use lib.IntN.{ℤ, _-ℤ_}
-use Rattle.projection.specs.declared.latitude.Geodetic.{Geodetic}
-use Rattle.projection.specs.declared.parameters.Parameters.{Parameters}
+use Rattle.ellipsoid.specs.declared.latitude.Geodetic.{Geodetic}
+use Rattle.ellipsoid.specs.declared.parameters.Parameters.{Parameters}
 use Rattle.projection.specs.declared.forward.PlaneAnswer.{PlaneAnswer}
 use Rattle.projection.specs.declared.forward.PlaneAnswer.the-variants.{Refused}
 use Rattle.projection.specs.declared.inverse.GeodeticAnswer.{GeodeticAnswer}
 use Rattle.projection.specs.declared.inverse.GeodeticAnswer.the-variants.{Position, Refused as NotFound}
-use Rattle.projection.specs.ParameterSet.{unless, setRefusal}
-use Rattle.projection.specs.Derived.{constantsOf}
+use Rattle.ellipsoid.specs.ParameterSet.{unless, setRefusal}
+use Rattle.ellipsoid.specs.Derived.{constantsOf}
 use Rattle.projection.specs.ForwardSteps.{near-enough, nearness, on-globe, forwardPoint, forwardOf, pick, after}
 use Rattle.projection.specs.InverseSteps.{G, K, at-origin, on-map, on-plane, positionOf, unprojected, inversePoint, inverseOf, pick as pick-geodetic, after as after-geodetic}
 use Rattle.projection.specs.Answers.{plane-told, geodetic-told, told, firstOf, forwardRefusal, forwardTold, farRefusal, latitudeTold, longitudeTold, inverseRefusal, inverseTold}

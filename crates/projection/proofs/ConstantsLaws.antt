@@ -2,15 +2,15 @@
 -- Assumes nothing.
 use mathlib.Core.Path.{_≡_, sym, subst}
 use Rattle.trig.proofs.Interface.{sine-size, cosine-size}
-use Rattle.projection.specs.declared.parameters.Parameters.{Parameters}
-use Rattle.projection.specs.declared.constants.Constants.{Constants}
-use Rattle.projection.specs.ParameterSet.{setRefusal}
-use Rattle.projection.specs.Latitude.{Small}
-use Rattle.projection.specs.Derived.{β0, S0, C0, constantsOf}
+use Rattle.ellipsoid.specs.declared.parameters.Parameters.{Parameters}
+use Rattle.ellipsoid.specs.declared.constants.Constants.{Constants}
+use Rattle.ellipsoid.specs.ParameterSet.{setRefusal}
+use Rattle.ellipsoid.specs.Latitude.{Small}
+use Rattle.ellipsoid.specs.Derived.{β0, S0, C0, constantsOf}
 use Rattle.projection.specs.ForwardSteps.{Turned}
-use Rattle.projection.proofs.AcceptedSet.{Between, accepted}
-use Rattle.projection.proofs.SeriesLaws.{series-small}
-use Rattle.projection.proofs.ScaleLaws.{e2-small, RD-between, RN-between}
+use Rattle.ellipsoid.proofs.AcceptedSet.{Between, accepted}
+use Rattle.ellipsoid.proofs.SeriesLaws.{series-small}
+use Rattle.ellipsoid.proofs.ScaleLaws.{e2-small, RD-between, RN-between}
 
 pub record Sound (k : Constants) : Type 0 where
   pub small : Small (k .series)

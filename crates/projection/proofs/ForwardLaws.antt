@@ -16,14 +16,14 @@ use Rattle.integers.proofs.Squares.{root-least, root-most}
 use Rattle.sine_table.specs.Table.{unit}
 use Rattle.trig.specs.Sine.{right-angle, half-turn, sine, cosine}
 use Rattle.trig.proofs.Interface.{sine-size, cosine-size}
-use Rattle.projection.specs.declared.constants.Constants.{Constants}
-use Rattle.projection.specs.Latitude.{betaMas}
-use Rattle.projection.specs.Derived.{U, constantsOf}
-use Rattle.projection.specs.declared.latitude.Geodetic.{Geodetic}
-use Rattle.projection.specs.declared.parameters.Parameters.{Parameters}
+use Rattle.ellipsoid.specs.declared.constants.Constants.{Constants}
+use Rattle.ellipsoid.specs.Latitude.{betaMas}
+use Rattle.ellipsoid.specs.Derived.{U, constantsOf}
+use Rattle.ellipsoid.specs.declared.latitude.Geodetic.{Geodetic}
+use Rattle.ellipsoid.specs.declared.parameters.Parameters.{Parameters}
 use Rattle.projection.specs.declared.forward.PlaneAnswer.the-variants.{Plane, Refused}
-use Rattle.projection.specs.ParameterSet.{within, setRefusal}
-use Rattle.projection.proofs.AcceptedSet.{both, within-size}
+use Rattle.ellipsoid.specs.ParameterSet.{within, setRefusal}
+use Rattle.ellipsoid.proofs.AcceptedSet.{both, within-size}
 use Rattle.projection.specs.ForwardSteps.{Turned, H, b, c, u, v, w, G, dE, dN, nearness, near-enough, on-globe, forwardPoint, forwardOf}
 
 some : 0 < unit

@@ -15,14 +15,14 @@ use Rattle.integers.specs.Near.{near, nearest}
 use Rattle.integers.proofs.Rounding.{near-at-most, near-pos}
 use Rattle.integers.proofs.Squares.{root-most}
 use Rattle.sine_table.specs.Table.{unit}
-use Rattle.projection.specs.declared.constants.Constants.{Constants}
-use Rattle.projection.specs.declared.parameters.Parameters.{Parameters}
+use Rattle.ellipsoid.specs.declared.constants.Constants.{Constants}
+use Rattle.ellipsoid.specs.declared.parameters.Parameters.{Parameters}
 use Rattle.projection.specs.declared.inverse.GeodeticAnswer.the-variants.{Position, Refused}
-use Rattle.projection.specs.ParameterSet.{within, setRefusal}
-use Rattle.projection.specs.Derived.{U, constantsOf}
+use Rattle.ellipsoid.specs.ParameterSet.{within, setRefusal}
+use Rattle.ellipsoid.specs.Derived.{U, constantsOf}
 use Rattle.projection.specs.ForwardSteps.{Turned, H, near-enough}
 use Rattle.projection.specs.InverseSteps.{dropOf, G, up, level, zOf, fOf, pointOf, Sized, positionOf, at-origin, on-map, X, Y, K, found, unprojected, on-plane, inversePoint, inverseOf}
-use Rattle.projection.proofs.AcceptedSet.{both, within-size}
+use Rattle.ellipsoid.proofs.AcceptedSet.{both, within-size}
 use Rattle.projection.proofs.ConstantsLaws.{Sound}
 
 some : 0 < unit

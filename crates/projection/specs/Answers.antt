@@ -2,15 +2,15 @@
 use Prim.Native.Nat.{ℕ, zero, suc}
 use mathlib.Core.Bool.{cond}
 use lib.IntN.{ℤ, pos, _+ℤ_, _-ℤ_}
-use Rattle.projection.specs.declared.latitude.Geodetic.{Geodetic}
-use Rattle.projection.specs.declared.parameters.Parameters.{Parameters}
+use Rattle.ellipsoid.specs.declared.latitude.Geodetic.{Geodetic}
+use Rattle.ellipsoid.specs.declared.parameters.Parameters.{Parameters}
 use Rattle.projection.specs.declared.forward.PlaneAnswer.{PlaneAnswer}
 use Rattle.projection.specs.declared.forward.PlaneAnswer.the-variants.{Plane, Refused}
 use Rattle.projection.specs.declared.inverse.GeodeticAnswer.{GeodeticAnswer}
 use Rattle.projection.specs.declared.inverse.GeodeticAnswer.the-variants.{Position, Refused as NotFound}
-use Rattle.projection.specs.ParameterSet.{unless, setRefusal}
-use Rattle.projection.specs.Latitude.{geodetic}
-use Rattle.projection.specs.Derived.{constantsOf}
+use Rattle.ellipsoid.specs.ParameterSet.{unless, setRefusal}
+use Rattle.ellipsoid.specs.Latitude.{geodetic}
+use Rattle.ellipsoid.specs.Derived.{constantsOf}
 use Rattle.projection.specs.ForwardSteps.{near-enough, nearness, on-globe, dE, dN}
 use Rattle.projection.specs.InverseSteps.{G, K, found, latitudeOf, longitudeOf, wrapped, at-origin, on-map, on-plane}
 

@@ -7,15 +7,15 @@ use Rattle.integers.specs.Near.{near}
 use Rattle.integers.specs.Root.{root}
 use Rattle.sine_table.specs.Table.{unit}
 use Rattle.trig.specs.Sine.{right-angle, half-turn, sine, cosine}
-use Rattle.projection.specs.declared.latitude.Geodetic.{Geodetic}
-use Rattle.projection.specs.declared.parameters.Parameters.{Parameters}
-use Rattle.projection.specs.declared.constants.Constants.{Constants}
+use Rattle.ellipsoid.specs.declared.latitude.Geodetic.{Geodetic}
+use Rattle.ellipsoid.specs.declared.parameters.Parameters.{Parameters}
+use Rattle.ellipsoid.specs.declared.constants.Constants.{Constants}
 use Rattle.projection.specs.declared.forward.Direction.{Direction}
 use Rattle.projection.specs.declared.forward.PlaneAnswer.{PlaneAnswer}
 use Rattle.projection.specs.declared.forward.PlaneAnswer.the-variants.{Plane, Refused}
-use Rattle.projection.specs.ParameterSet.{within, setRefusal}
-use Rattle.projection.specs.Latitude.{betaMas}
-use Rattle.projection.specs.Derived.{U, constantsOf}
+use Rattle.ellipsoid.specs.ParameterSet.{within, setRefusal}
+use Rattle.ellipsoid.specs.Latitude.{betaMas}
+use Rattle.ellipsoid.specs.Derived.{U, constantsOf}
 
 -- Nearness (a term of document 01): 2U at the centre, 0 at the point opposite to it. "G below 20,000,000: refused 4."
 unfoldable pub near-enough : ℤ → Bool

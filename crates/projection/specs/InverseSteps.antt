@@ -8,16 +8,16 @@ use Rattle.integers.specs.Root.{root}
 use Rattle.sine_table.specs.Table.{unit}
 use Rattle.trig.specs.Sine.{half-turn, full-turn}
 use Rattle.trig.specs.Angle.{angle}
-use Rattle.projection.specs.declared.latitude.Authalic.{Authalic}
-use Rattle.projection.specs.declared.latitude.AuthalicSeries.{AuthalicSeries}
-use Rattle.projection.specs.declared.parameters.Parameters.{Parameters}
-use Rattle.projection.specs.declared.constants.Constants.{Constants}
+use Rattle.ellipsoid.specs.declared.latitude.Authalic.{Authalic}
+use Rattle.ellipsoid.specs.declared.latitude.AuthalicSeries.{AuthalicSeries}
+use Rattle.ellipsoid.specs.declared.parameters.Parameters.{Parameters}
+use Rattle.ellipsoid.specs.declared.constants.Constants.{Constants}
 use Rattle.projection.specs.declared.inverse.SpherePoint.{SpherePoint}
 use Rattle.projection.specs.declared.inverse.GeodeticAnswer.{GeodeticAnswer}
 use Rattle.projection.specs.declared.inverse.GeodeticAnswer.the-variants.{Position, Refused}
-use Rattle.projection.specs.ParameterSet.{within, same, setRefusal}
-use Rattle.projection.specs.Latitude.{geodetic}
-use Rattle.projection.specs.Derived.{U, constantsOf}
+use Rattle.ellipsoid.specs.ParameterSet.{within, same, setRefusal}
+use Rattle.ellipsoid.specs.Latitude.{geodetic}
+use Rattle.ellipsoid.specs.Derived.{U, constantsOf}
 use Rattle.projection.specs.ForwardSteps.{near-enough, H}
 
 -- "K = near((X² + Y²)/(2U)). G = 2U − K"

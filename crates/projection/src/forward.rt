@@ -1,13 +1,13 @@
 // From geodetic latitude and longitude to easting and northing, in whole units.
-use crate::billionths::difference;
-use crate::billionths::product;
-use crate::billionths::sum;
-use crate::constants::Constants;
-use crate::constants::constants_of;
-use crate::latitude::Geodetic;
-use crate::latitude::to_authalic;
-use crate::parameters::Parameters;
-use crate::parameters::are_within;
+use ellipsoid::billionths::difference;
+use ellipsoid::billionths::product;
+use ellipsoid::billionths::sum;
+use ellipsoid::constants::Constants;
+use ellipsoid::constants::constants_of;
+use ellipsoid::latitude::Geodetic;
+use ellipsoid::latitude::to_authalic;
+use ellipsoid::parameters::Parameters;
+use ellipsoid::parameters::are_within;
 use integers::near;
 use integers::root;
 use trig::cosine;
@@ -19,9 +19,9 @@ ghost use lib.Signed.{_≤ℤ_};
 ghost use Rattle.integers.specs.Near.{near as nearOf};
 ghost use Rattle.sine_table.specs.Table.{IsTable};
 ghost use Rattle.trig.specs.Sine.{right-angle, full-turn};
-ghost use Rattle.projection.specs.ParameterSet.{setRefusal};
-ghost use Rattle.projection.specs.Latitude.{Small};
-ghost use Rattle.projection.specs.Derived.{constantsOf};
+ghost use Rattle.ellipsoid.specs.ParameterSet.{setRefusal};
+ghost use Rattle.ellipsoid.specs.Latitude.{Small};
+ghost use Rattle.ellipsoid.specs.Derived.{constantsOf};
 ghost use Rattle.projection.specs.ForwardSteps.{H as scaleOf, Turned, directionOf, on-globe, forwardPoint, forwardOf};
 ghost use Rattle.projection.specs.Answers.{plane-told, forwardTold};
 

@@ -19,18 +19,18 @@ use Rattle.integers.proofs.Rounding.{near-zero, near-whole, near-mono, near-odd
 use Rattle.sine_table.specs.Table.{unit}
 use Rattle.trig.specs.Sine.{right-angle, half-turn, sine, cosine}
 use Rattle.trig.proofs.Interface.{sine-zero, sine-right, sine-odd, cosine-zero, cosine-right, cosine-even, cosine-quarter-turn, near-circle}
-use Rattle.projection.specs.declared.latitude.Geodetic.{Geodetic}
-use Rattle.projection.specs.declared.parameters.Parameters.{Parameters}
-use Rattle.projection.specs.declared.constants.Constants.{Constants}
+use Rattle.ellipsoid.specs.declared.latitude.Geodetic.{Geodetic}
+use Rattle.ellipsoid.specs.declared.parameters.Parameters.{Parameters}
+use Rattle.ellipsoid.specs.declared.constants.Constants.{Constants}
 use Rattle.projection.specs.declared.forward.PlaneAnswer.the-variants.{Plane, Refused}
 use Rattle.projection.specs.declared.inverse.GeodeticAnswer.the-variants.{Position}
-use Rattle.projection.specs.ParameterSet.{within, same, polar, setRefusal}
-use Rattle.projection.specs.Latitude.{betaMas}
-use Rattle.projection.specs.Derived.{U, seriesOf, β0, S0, C0, constantsOf}
+use Rattle.ellipsoid.specs.ParameterSet.{within, same, polar, setRefusal}
+use Rattle.ellipsoid.specs.Latitude.{betaMas}
+use Rattle.ellipsoid.specs.Derived.{U, seriesOf, β0, S0, C0, constantsOf}
 use Rattle.projection.specs.ForwardSteps.{H, b, c, u, v, w, G, dE, dN, nearness, forwardOf}
 use Rattle.projection.specs.InverseSteps.{at-origin, inverseOf}
-use Rattle.projection.proofs.AcceptedSet.{accepted, lat0-size, polar-cases}
-use Rattle.projection.proofs.AuthalicLaws.{beta-odd, beta-north-pole, beta-south-pole}
+use Rattle.ellipsoid.proofs.AcceptedSet.{accepted, lat0-size, polar-cases}
+use Rattle.ellipsoid.proofs.AuthalicLaws.{beta-odd, beta-north-pole, beta-south-pole}
 use Rattle.projection.proofs.ForwardLaws.{H-least, forward-too-far, forward-plane, forward-of-accepted}
 use Rattle.projection.proofs.InverseLaws.{unprojected-origin, inverse-on-plane, inverse-of-accepted}
 use Rattle.projection.specs.Answers.{plane-told, geodetic-told}

@@ -15,14 +15,14 @@ use Rattle.proof_kit.proofs.Order.{order, lt-leZ}
 use Rattle.integers.specs.Near.{near}
 use Rattle.integers.proofs.Rounding.{near-zero, near-whole}
 use Rattle.sine_table.specs.Table.{unit}
-use Rattle.projection.specs.declared.parameters.Parameters.{Parameters}
-use Rattle.projection.specs.declared.constants.Constants.{Constants}
+use Rattle.ellipsoid.specs.declared.parameters.Parameters.{Parameters}
+use Rattle.ellipsoid.specs.declared.constants.Constants.{Constants}
 use Rattle.projection.specs.declared.inverse.GeodeticAnswer.the-variants.{Refused}
-use Rattle.projection.specs.ParameterSet.{within, same, setRefusal}
-use Rattle.projection.specs.Derived.{U, RD, constantsOf}
+use Rattle.ellipsoid.specs.ParameterSet.{within, same, setRefusal}
+use Rattle.ellipsoid.specs.Derived.{U, RD, constantsOf}
 use Rattle.projection.specs.ForwardSteps.{near-enough}
 use Rattle.projection.specs.InverseSteps.{G, K, X, Y, dropOf, at-origin, on-map, unprojected, inverseOf}
-use Rattle.projection.proofs.AcceptedSet.{accepted}
+use Rattle.ellipsoid.proofs.AcceptedSet.{accepted}
 use Rattle.projection.proofs.ConstantsLaws.{Sound, sound}
 use Rattle.projection.proofs.InverseLaws.{unprojected-too-far, inverse-on-plane, inverse-of-accepted}
 use Rattle.projection.specs.Answers.{geodetic-told}

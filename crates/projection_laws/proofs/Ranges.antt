@@ -13,21 +13,21 @@ use Rattle.proof_kit.proofs.Order.{order, abs-upper}
 use Rattle.integers.proofs.Greatest.{greatest-le}
 use Rattle.trig.specs.Sine.{right-angle, half-turn, full-turn, sine, cosine}
 use Rattle.trig.proofs.Interface.{sine-full-turn, sine-quarter-turn}
-use Rattle.projection.specs.declared.latitude.Geodetic.{Geodetic}
-use Rattle.projection.specs.declared.latitude.Authalic.{Authalic}
-use Rattle.projection.specs.declared.latitude.AuthalicSeries.{AuthalicSeries}
-use Rattle.projection.specs.declared.parameters.Parameters.{Parameters}
-use Rattle.projection.specs.declared.constants.Constants.{Constants}
+use Rattle.ellipsoid.specs.declared.latitude.Geodetic.{Geodetic}
+use Rattle.ellipsoid.specs.declared.latitude.Authalic.{Authalic}
+use Rattle.ellipsoid.specs.declared.latitude.AuthalicSeries.{AuthalicSeries}
+use Rattle.ellipsoid.specs.declared.parameters.Parameters.{Parameters}
+use Rattle.ellipsoid.specs.declared.constants.Constants.{Constants}
 use Rattle.projection.specs.declared.inverse.SpherePoint.{SpherePoint}
 use Rattle.projection.specs.declared.inverse.GeodeticAnswer.{GeodeticAnswer}
 use Rattle.projection.specs.declared.inverse.GeodeticAnswer.the-variants.{Position, Refused as NotFound}
-use Rattle.projection.specs.ParameterSet.{within, setRefusal}
-use Rattle.projection.specs.Latitude.{not-above, geodetic}
-use Rattle.projection.specs.Derived.{constantsOf}
+use Rattle.ellipsoid.specs.ParameterSet.{within, setRefusal}
+use Rattle.ellipsoid.specs.Latitude.{not-above, geodetic}
+use Rattle.ellipsoid.specs.Derived.{constantsOf}
 use Rattle.projection.specs.ForwardSteps.{b, c, u, v, w, G, dE, dN, nearness, near-enough, on-globe, forwardPoint, forwardOf}
 use Rattle.projection.specs.InverseSteps.{latitudeOf, longitudeOf, positionOf, at-origin, on-map, on-plane, K, found, unprojected, inversePoint, inverseOf, pick, after, G as inverseG}
-use Rattle.projection.proofs.AcceptedSet.{Accepted, accepted, lat0-size}
-use Rattle.projection.proofs.GeodeticLaws.{from-south-pole-size}
+use Rattle.ellipsoid.proofs.AcceptedSet.{Accepted, accepted, lat0-size}
+use Rattle.ellipsoid.proofs.GeodeticLaws.{from-south-pole-size}
 use Rattle.projection.proofs.AngleLaws.{longitude-size, wrapped-range}
 use Rattle.projection.specs.Answers.{geodetic-told}
 use Rattle.projection_laws.specs.Theorems.{InverseRange, HalfTurnAlike}

@@ -7,14 +7,14 @@ use Prim.Native.Nat.{ℕ, zero, suc, _≤_, zero-le}
 use native.Mathlib.Nat.{le-refl}
 use native.Mathlib.Omega.{arith}
 use lib.IntN.{ℤ, _-ℤ_}
-use Rattle.projection.specs.declared.latitude.Geodetic.{Geodetic}
-use Rattle.projection.specs.declared.parameters.Parameters.{Parameters}
+use Rattle.ellipsoid.specs.declared.latitude.Geodetic.{Geodetic}
+use Rattle.ellipsoid.specs.declared.parameters.Parameters.{Parameters}
 use Rattle.projection.specs.declared.forward.PlaneAnswer.{PlaneAnswer}
 use Rattle.projection.specs.declared.forward.PlaneAnswer.the-variants.{Plane, Refused}
 use Rattle.projection.specs.declared.inverse.GeodeticAnswer.{GeodeticAnswer}
 use Rattle.projection.specs.declared.inverse.GeodeticAnswer.the-variants.{Position, Refused as NotFound}
-use Rattle.projection.specs.ParameterSet.{unless, accepted-a, accepted-e2, accepted-lat0, accepted-lon0, accepted-false, firstRefusal, setRefusal}
-use Rattle.projection.specs.Derived.{constantsOf}
+use Rattle.ellipsoid.specs.ParameterSet.{unless, accepted-a, accepted-e2, accepted-lat0, accepted-lon0, accepted-false, firstRefusal, setRefusal}
+use Rattle.ellipsoid.specs.Derived.{constantsOf}
 use Rattle.projection.specs.ForwardSteps.{near-enough, nearness, on-globe, forwardPoint, forwardOf, pick, after}
 use Rattle.projection.specs.InverseSteps.{G, K, at-origin, on-map, on-plane, positionOf, unprojected, inversePoint, inverseOf, pick as pick-geodetic, after as after-geodetic}
 use Rattle.projection.specs.Answers.{Told, accepted, plane-told, geodetic-told}

@@ -7,8 +7,8 @@ use lib.IntN.{ℤ, pos, negℤ, natAbs}
 use lib.Signed.{_≤ℤ_, _<ℤ_}
 use Rattle.proof_kit.proofs.Order.{abs-lower, abs-upper, le-leZ, lt-leZ}
 use Rattle.trig.specs.Sine.{right-angle, half-turn}
-use Rattle.projection.specs.declared.latitude.Geodetic.{Geodetic}
-use Rattle.projection.specs.ParameterSet.{within}
+use Rattle.ellipsoid.specs.declared.latitude.Geodetic.{Geodetic}
+use Rattle.ellipsoid.specs.ParameterSet.{within}
 use Rattle.projection.specs.ForwardSteps.{near-enough, on-globe}
 use Rattle.projection.specs.InverseSteps.{on-plane}
 

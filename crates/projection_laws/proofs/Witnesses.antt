@@ -9,11 +9,11 @@ use lib.Dec.{lit≤}
 use lib.IntN.{ℤ, pos, negℤ, natAbs, _*ℤ_}
 use lib.Signed.{_<ℤ_, leZ}
 use Rattle.proof_kit.proofs.Order.{order, lt-leZ}
-use Rattle.projection.specs.ParameterSet.{within, same, polar, accepted-a, accepted-e2, accepted-lat0, accepted-lon0, accepted-false, firstRefusal, setRefusal, etrsLaea}
-use Rattle.projection.specs.Derived.{constantsOf}
+use Rattle.ellipsoid.specs.ParameterSet.{within, same, polar, accepted-a, accepted-e2, accepted-lat0, accepted-lon0, accepted-false, firstRefusal, setRefusal, etrsLaea}
+use Rattle.ellipsoid.specs.Derived.{constantsOf}
 use Rattle.projection.specs.ForwardSteps.{on-globe}
 use Rattle.projection.specs.InverseSteps.{at-origin, on-map, on-plane}
-use Rattle.projection.proofs.AcceptedSet.{Between}
+use Rattle.ellipsoid.proofs.AcceptedSet.{Between}
 use Rattle.projection.proofs.ConstantsLaws.{sound}
 use Rattle.projection.proofs.ForwardLaws.{forward-off-globe, forward-of-accepted, forward-of-refused}
 use Rattle.projection.proofs.InverseLaws.{unprojected-off-map, inverse-off-plane, inverse-on-plane, inverse-of-accepted, inverse-of-refused}

@@ -5,13 +5,13 @@ use mathlib.Core.Bool.{true}
 use mathlib.Core.Logic.{_⊎_}
 use lib.IntN.{ℤ, pos, negℤ, natAbs, _+ℤ_, _-ℤ_, _*ℤ_}
 use lib.Signed.{_≤ℤ_, _<ℤ_}
-use Rattle.projection.specs.declared.latitude.Geodetic.{Geodetic}
-use Rattle.projection.specs.declared.parameters.Parameters.{Parameters}
+use Rattle.ellipsoid.specs.declared.latitude.Geodetic.{Geodetic}
+use Rattle.ellipsoid.specs.declared.parameters.Parameters.{Parameters}
 use Rattle.projection.specs.declared.forward.PlaneAnswer.the-variants.{Plane, Refused}
 use Rattle.projection.specs.declared.inverse.GeodeticAnswer.the-variants.{Position, Refused as NotFound}
-use Rattle.projection.specs.ParameterSet.{polar, accepted-e2, setRefusal, etrsLaea}
-use Rattle.projection.specs.Latitude.{betaMas}
-use Rattle.projection.specs.Derived.{seriesOf, RD, constantsOf}
+use Rattle.ellipsoid.specs.ParameterSet.{polar, accepted-e2, setRefusal, etrsLaea}
+use Rattle.ellipsoid.specs.Latitude.{betaMas}
+use Rattle.ellipsoid.specs.Derived.{seriesOf, RD, constantsOf}
 use Rattle.projection.specs.ForwardSteps.{forwardOf}
 use Rattle.projection.specs.InverseSteps.{on-map, inverseOf}
 use Rattle.projection.specs.Answers.{Told, accepted, refused, plane-told, geodetic-told}

@@ -12,14 +12,14 @@ use Rattle.proof_kit.proofs.Order.{pos-≤ℤ}
 use Rattle.proof_kit.proofs.Ring.{ring, ring-from, quote}
 use Rattle.proof_kit.proofs.Size.{abs-by, abs-sub-le, sizes}
 use Rattle.trig.specs.Sine.{right-angle, half-turn, full-turn, sine, cosine}
-use Rattle.projection.specs.declared.constants.Constants.{Constants}
-use Rattle.projection.specs.declared.latitude.Geodetic.{Geodetic}
-use Rattle.projection.specs.declared.parameters.Parameters.{Parameters}
+use Rattle.ellipsoid.specs.declared.constants.Constants.{Constants}
+use Rattle.ellipsoid.specs.declared.latitude.Geodetic.{Geodetic}
+use Rattle.ellipsoid.specs.declared.parameters.Parameters.{Parameters}
 use Rattle.projection.specs.declared.inverse.SpherePoint.{SpherePoint}
-use Rattle.projection.specs.Latitude.{betaMas}
+use Rattle.ellipsoid.specs.Latitude.{betaMas}
 use Rattle.projection.specs.ForwardSteps.{b, c, u, v, dE, dN}
 use Rattle.projection.specs.InverseSteps.{found}
-use Rattle.projection.proofs.AuthalicLaws.{beta-size}
+use Rattle.ellipsoid.proofs.AuthalicLaws.{beta-size}
 use Rattle.projection.proofs.AngleLaws.{radius}
 use Rattle.round_trip.specs.RoundTrip.{turnGap}
 use Rattle.round_trip.proofs.Numerals.{unit, E1, Ez, ER}

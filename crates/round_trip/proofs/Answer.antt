@@ -22,19 +22,19 @@ use Rattle.integers.proofs.Rounding.{near-zero, near-whole}
 use Rattle.integers.proofs.Squares.{root-is}
 use Rattle.trig.specs.Sine.{right-angle, half-turn, full-turn, sine, cosine}
 use Rattle.trig.proofs.Interface.{cosine-nonneg}
-use Rattle.projection.specs.declared.constants.Constants.{Constants}
-use Rattle.projection.specs.declared.latitude.AuthalicSeries.{AuthalicSeries}
-use Rattle.projection.specs.declared.latitude.Geodetic.{Geodetic}
-use Rattle.projection.specs.declared.parameters.Parameters.{Parameters}
+use Rattle.ellipsoid.specs.declared.constants.Constants.{Constants}
+use Rattle.ellipsoid.specs.declared.latitude.AuthalicSeries.{AuthalicSeries}
+use Rattle.ellipsoid.specs.declared.latitude.Geodetic.{Geodetic}
+use Rattle.ellipsoid.specs.declared.parameters.Parameters.{Parameters}
 use Rattle.projection.specs.declared.inverse.SpherePoint.{SpherePoint}
 use Rattle.projection.specs.declared.inverse.GeodeticAnswer.the-variants.{Position}
-use Rattle.projection.specs.ParameterSet.{same, within}
-use Rattle.projection.specs.Latitude.{betaMas, Small, geodetic}
-use Rattle.projection.specs.Derived.{U}
+use Rattle.ellipsoid.specs.ParameterSet.{same, within}
+use Rattle.ellipsoid.specs.Latitude.{betaMas, Small, geodetic}
+use Rattle.ellipsoid.specs.Derived.{U}
 use Rattle.projection.specs.ForwardSteps.{H, near-enough}
 use Rattle.projection.specs.InverseSteps.{dropOf, G, up, level, zOf, fOf, pointOf, X, Y, K, found, latitudeOf, longitudeOf, wrapped, positionOf, at-origin, on-map, unprojected}
-use Rattle.projection.proofs.AcceptedSet.{Between, both, same-equal}
-use Rattle.projection.proofs.AuthalicLaws.{beta-slope, beta-size}
+use Rattle.ellipsoid.proofs.AcceptedSet.{Between, both, same-equal}
+use Rattle.ellipsoid.proofs.AuthalicLaws.{beta-slope, beta-size}
 use Rattle.projection.proofs.ConstantsLaws.{Sound}
 use Rattle.projection.proofs.InverseLaws.{unprojected-origin, unprojected-position}
 use Rattle.projection.proofs.AngleLaws.{radius, latitude-size, wrapped-low, wrapped-high, wrapped-between}

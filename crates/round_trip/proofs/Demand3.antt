@@ -12,17 +12,17 @@ use lib.Signed.{_≤ℤ_}
 use Rattle.proof_kit.proofs.Laws.{P-neg, N-neg}
 use Rattle.proof_kit.proofs.Order.{order, pos-≤, pos-≤ℤ, ≤ℤ-trans, le-leZ}
 use Rattle.proof_kit.proofs.Ring.{ring, quote}
-use Rattle.projection.specs.declared.constants.Constants.{Constants}
-use Rattle.projection.specs.declared.latitude.Geodetic.{Geodetic}
-use Rattle.projection.specs.declared.parameters.Parameters.{Parameters}
+use Rattle.ellipsoid.specs.declared.constants.Constants.{Constants}
+use Rattle.ellipsoid.specs.declared.latitude.Geodetic.{Geodetic}
+use Rattle.ellipsoid.specs.declared.parameters.Parameters.{Parameters}
 use Rattle.projection.specs.declared.forward.PlaneAnswer.{PlaneAnswer}
 use Rattle.projection.specs.declared.forward.PlaneAnswer.the-variants.{Plane, Refused}
 use Rattle.projection.specs.declared.inverse.GeodeticAnswer.{GeodeticAnswer}
-use Rattle.projection.specs.ParameterSet.{within, setRefusal}
-use Rattle.projection.specs.Derived.{β0, S0, C0, constantsOf}
+use Rattle.ellipsoid.specs.ParameterSet.{within, setRefusal}
+use Rattle.ellipsoid.specs.Derived.{β0, S0, C0, constantsOf}
 use Rattle.projection.specs.ForwardSteps.{c, dE, dN, nearness, near-enough, on-globe, forwardPoint, forwardOf}
 use Rattle.projection.specs.InverseSteps.{G as G′, K, on-map, unprojected, inverseOf}
-use Rattle.projection.proofs.AcceptedSet.{Between, accepted, lat0-size}
+use Rattle.ellipsoid.proofs.AcceptedSet.{Between, accepted, lat0-size}
 use Rattle.projection.proofs.ConstantsLaws.{sound}
 use Rattle.projection.proofs.ForwardLaws.{forward-off-globe, forward-plane, forward-of-accepted}
 use Rattle.projection.proofs.InverseLaws.{inverse-on-plane, inverse-of-accepted}

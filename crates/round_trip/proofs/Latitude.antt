@@ -16,11 +16,11 @@ use Rattle.proof_kit.proofs.Size.{within}
 use Rattle.integers.specs.Greatest.{greatest}
 use Rattle.integers.proofs.Greatest.{greatest-le, greatest-skip, greatest-ge}
 use Rattle.trig.specs.Sine.{right-angle, half-turn}
-use Rattle.projection.specs.declared.latitude.AuthalicSeries.{AuthalicSeries}
-use Rattle.projection.specs.declared.latitude.Authalic.{Authalic}
-use Rattle.projection.specs.declared.latitude.Geodetic.{Geodetic}
-use Rattle.projection.specs.Latitude.{betaMas, Small, from-south-pole, not-above, geodetic}
-use Rattle.projection.proofs.AuthalicLaws.{beta-slope}
+use Rattle.ellipsoid.specs.declared.latitude.AuthalicSeries.{AuthalicSeries}
+use Rattle.ellipsoid.specs.declared.latitude.Authalic.{Authalic}
+use Rattle.ellipsoid.specs.declared.latitude.Geodetic.{Geodetic}
+use Rattle.ellipsoid.specs.Latitude.{betaMas, Small, from-south-pole, not-above, geodetic}
+use Rattle.ellipsoid.proofs.AuthalicLaws.{beta-slope}
 
 -- ---- two latitudes n mas apart, whose β are x and y
 

@@ -18,17 +18,17 @@ use Rattle.integers.specs.Near.{near}
 use Rattle.integers.proofs.Rounding.{near-at-most}
 use Rattle.trig.specs.Sine.{sine, cosine}
 use Rattle.trig.proofs.Interface.{near-circle}
-use Rattle.projection.specs.declared.latitude.Geodetic.{Geodetic}
-use Rattle.projection.specs.declared.parameters.Parameters.{Parameters}
-use Rattle.projection.specs.declared.constants.Constants.{Constants}
+use Rattle.ellipsoid.specs.declared.latitude.Geodetic.{Geodetic}
+use Rattle.ellipsoid.specs.declared.parameters.Parameters.{Parameters}
+use Rattle.ellipsoid.specs.declared.constants.Constants.{Constants}
 use Rattle.projection.specs.declared.forward.PlaneAnswer.{PlaneAnswer}
 use Rattle.projection.specs.declared.forward.PlaneAnswer.the-variants.{Plane, Refused}
-use Rattle.projection.specs.ParameterSet.{within, setRefusal}
-use Rattle.projection.specs.Latitude.{betaMas}
-use Rattle.projection.specs.Derived.{β0, S0, C0, constantsOf}
+use Rattle.ellipsoid.specs.ParameterSet.{within, setRefusal}
+use Rattle.ellipsoid.specs.Latitude.{betaMas}
+use Rattle.ellipsoid.specs.Derived.{β0, S0, C0, constantsOf}
 use Rattle.projection.specs.ForwardSteps.{H, b, c, u, v, w, G, dE, dN, nearness, near-enough, on-globe, pick, after, forwardPoint, forwardOf}
 use Rattle.projection.specs.InverseSteps.{on-plane}
-use Rattle.projection.proofs.AcceptedSet.{accepted}
+use Rattle.ellipsoid.proofs.AcceptedSet.{accepted}
 use Rattle.projection.proofs.ConstantsLaws.{Sound, sound}
 use Rattle.projection.proofs.ForwardLaws.{b-size, c-size, u-size, v-size, w-size, sum-size, H-least}
 use Rattle.round_trip.proofs.Forward.{three-circles}

@@ -11,12 +11,12 @@ use Rattle.proof_kit.proofs.Order.{order, ≤ℤ-trans, leZ-true, le-leZ}
 use Rattle.integers.specs.Near.{near, nearest}
 use Rattle.sine_table.specs.Table.{entry}
 use Rattle.trig.specs.Sine.{between, first-quarter, first-half, one-turn, sine, cosine}
-use Rattle.projection.specs.declared.latitude.Geodetic.{Geodetic}
-use Rattle.projection.specs.declared.parameters.Parameters.{Parameters}
+use Rattle.ellipsoid.specs.declared.latitude.Geodetic.{Geodetic}
+use Rattle.ellipsoid.specs.declared.parameters.Parameters.{Parameters}
 use Rattle.projection.specs.declared.forward.PlaneAnswer.the-variants.{Plane}
-use Rattle.projection.specs.ParameterSet.{within, same, polar, accepted-a, accepted-e2, accepted-lat0, accepted-lon0, accepted-false, firstRefusal, setRefusal, etrsLaea}
-use Rattle.projection.specs.Latitude.{terms, rounded, betaMas}
-use Rattle.projection.specs.Derived.{to-mas, e4, e6, k2, k4, k6, seriesOf, β0, S0, C0, constantsOf}
+use Rattle.ellipsoid.specs.ParameterSet.{within, same, polar, accepted-a, accepted-e2, accepted-lat0, accepted-lon0, accepted-false, firstRefusal, setRefusal, etrsLaea}
+use Rattle.ellipsoid.specs.Latitude.{terms, rounded, betaMas}
+use Rattle.ellipsoid.specs.Derived.{to-mas, e4, e6, k2, k4, k6, seriesOf, β0, S0, C0, constantsOf}
 use Rattle.projection.specs.ForwardSteps.{b, c, v, G, dE, dN, nearness, near-enough, on-globe, forwardOf}
 use Rattle.projection.proofs.ForwardLaws.{forward-plane, forward-of-accepted}
 

@@ -9,9 +9,9 @@ use Rattle.proof_kit.proofs.Order.{order, le-of, ≤ℤ-trans, negℤ-mono, abs
 use Rattle.proof_kit.proofs.Ring.{quote}
 use Rattle.trig.specs.Sine.{right-angle, cosine}
 use Rattle.trig.proofs.Interface.{cosine-even, cosine-anti, sine-59-minutes}
-use Rattle.projection.specs.declared.latitude.AuthalicSeries.{AuthalicSeries}
-use Rattle.projection.specs.Latitude.{betaMas, Small}
-use Rattle.projection.proofs.AuthalicLaws.{beta-odd, beta-north-pole, beta-slope, beta-≤}
+use Rattle.ellipsoid.specs.declared.latitude.AuthalicSeries.{AuthalicSeries}
+use Rattle.ellipsoid.specs.Latitude.{betaMas, Small}
+use Rattle.ellipsoid.proofs.AuthalicLaws.{beta-odd, beta-north-pole, beta-slope, beta-≤}
 
 -- ---- the cosine 59 minutes from a pole
 

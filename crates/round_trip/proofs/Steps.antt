@@ -12,13 +12,13 @@ use Rattle.proof_kit.proofs.Order.{order, pos-≤, pos-abs, ≤ℤ-trans}
 use Rattle.integers.specs.Near.{near}
 use Rattle.trig.specs.Sine.{sine, cosine}
 use Rattle.trig.proofs.Interface.{sine-size, cosine-size, near-circle}
-use Rattle.projection.specs.declared.constants.Constants.{Constants}
+use Rattle.ellipsoid.specs.declared.constants.Constants.{Constants}
 use Rattle.projection.specs.declared.inverse.SpherePoint.{SpherePoint}
-use Rattle.projection.specs.Latitude.{betaMas}
-use Rattle.projection.specs.Derived.{U}
+use Rattle.ellipsoid.specs.Latitude.{betaMas}
+use Rattle.ellipsoid.specs.Derived.{U}
 use Rattle.projection.specs.ForwardSteps.{H, b, c, u, v, w, G, dE, dN}
 use Rattle.projection.specs.InverseSteps.{dropOf, G as G′, up, level, zOf, fOf, pointOf, X, Y, K, found}
-use Rattle.projection.proofs.AcceptedSet.{Between}
+use Rattle.ellipsoid.proofs.AcceptedSet.{Between}
 use Rattle.projection.proofs.ForwardLaws.{H-least}
 use Rattle.projection.proofs.ConstantsLaws.{Sound}
 use Rattle.projection.proofs.AngleLaws.{radius}

@@ -5,15 +5,15 @@ use lib.IntN.{ℤ, pos, natAbs, _-ℤ_, _*ℤ_}
 use lib.Signed.{_≤ℤ_}
 use Rattle.sine_table.specs.Table.{unit}
 use Rattle.trig.specs.Sine.{full-turn, cosine}
-use Rattle.projection.specs.declared.latitude.Geodetic.{Geodetic}
-use Rattle.projection.specs.declared.parameters.Parameters.{Parameters}
+use Rattle.ellipsoid.specs.declared.latitude.Geodetic.{Geodetic}
+use Rattle.ellipsoid.specs.declared.parameters.Parameters.{Parameters}
 use Rattle.projection.specs.declared.forward.PlaneAnswer.{PlaneAnswer}
 use Rattle.projection.specs.declared.forward.PlaneAnswer.the-variants.{Plane, Refused}
 use Rattle.projection.specs.declared.inverse.GeodeticAnswer.{GeodeticAnswer}
 use Rattle.projection.specs.declared.inverse.GeodeticAnswer.the-variants.{Position, Refused as NotFound}
-use Rattle.projection.specs.ParameterSet.{setRefusal}
-use Rattle.projection.specs.Latitude.{betaMas}
-use Rattle.projection.specs.Derived.{seriesOf}
+use Rattle.ellipsoid.specs.ParameterSet.{setRefusal}
+use Rattle.ellipsoid.specs.Latitude.{betaMas}
+use Rattle.ellipsoid.specs.Derived.{seriesOf}
 use Rattle.projection.specs.ForwardSteps.{nearness, forwardOf}
 use Rattle.projection.specs.InverseSteps.{inverseOf}
 

@@ -1,13 +1,13 @@
 // How far the answer is from the position put in, in document 01's terms.
 use integers::magnitude;
-use projection::latitude::AuthalicSeries;
-use projection::latitude::Geodetic;
-use projection::latitude::to_authalic;
+use ellipsoid::latitude::AuthalicSeries;
+use ellipsoid::latitude::Geodetic;
+use ellipsoid::latitude::to_authalic;
 ghost use Prim.Native.Nat.{_≤_};
 ghost use lib.IntN.{natAbs};
 ghost use Rattle.sine_table.specs.Table.{IsTable, unit};
 ghost use Rattle.trig.specs.Sine.{right-angle, half-turn};
-ghost use Rattle.projection.specs.Latitude.{Small};
+ghost use Rattle.ellipsoid.specs.Latitude.{Small};
 
 // The size of the difference of two angles.
 pub(crate) fn gap(x: i64, y: i64) -> u64

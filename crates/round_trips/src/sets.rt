@@ -1,7 +1,7 @@
 // The sets that are run: every aspect, sphere and ellipsoid, with the limits of document 01's table among them.
 use crate::trips::row;
-use projection::latitude::Geodetic;
-use projection::parameters::Parameters;
+use ellipsoid::latitude::Geodetic;
+use ellipsoid::parameters::Parameters;
 ghost use Rattle.sine_table.specs.Table.{IsTable};
 
 // A set by its numbers, with one number for both false coordinates.

@@ -6,25 +6,25 @@ use crate::gaps::weight;
 use crate::positions::next;
 use crate::positions::spread;
 use crate::tally::Tally;
-use projection::constants::Constants;
-use projection::constants::constants_of;
+use ellipsoid::constants::Constants;
+use ellipsoid::constants::constants_of;
 use projection::forward::PlaneAnswer;
 use projection::forward::direction_of;
 use projection::forward::forward;
 use projection::inverse::GeodeticAnswer;
 use projection::inverse::inverse;
-use projection::latitude::AuthalicSeries;
-use projection::latitude::Geodetic;
-use projection::parameters::Parameters;
-use projection::parameters::are_within;
+use ellipsoid::latitude::AuthalicSeries;
+use ellipsoid::latitude::Geodetic;
+use ellipsoid::parameters::Parameters;
+use ellipsoid::parameters::are_within;
 ghost use mathlib.Core.Path.{_≡_};
 ghost use Prim.Native.Nat.{_≤_};
 ghost use lib.IntN.{natAbs};
 ghost use Rattle.sine_table.specs.Table.{IsTable};
 ghost use Rattle.trig.specs.Sine.{right-angle, half-turn};
-ghost use Rattle.projection.specs.ParameterSet.{setRefusal};
-ghost use Rattle.projection.specs.Latitude.{Small};
-ghost use Rattle.projection.specs.Derived.{constantsOf};
+ghost use Rattle.ellipsoid.specs.ParameterSet.{setRefusal};
+ghost use Rattle.ellipsoid.specs.Latitude.{Small};
+ghost use Rattle.ellipsoid.specs.Derived.{constantsOf};
 
 // The position found beside the one put in.
 fn compared(

@@ -3,7 +3,7 @@ use crate::rows::refused_row;
 use crate::rows::set;
 use printing::line;
 use printing::value;
-use projection::parameters::Parameters;
+use ellipsoid::parameters::Parameters;
 
 const LEAST: i64 = -9223372036854775808;
 

@@ -3,7 +3,7 @@ use crate::rows::forward_row;
 use crate::rows::inverse_row;
 use crate::rows::set;
 use printing::line;
-use projection::parameters::Parameters;
+use ellipsoid::parameters::Parameters;
 
 // The names of the rows, counted from 0.
 fn name(k: usize) {

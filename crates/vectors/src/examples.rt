@@ -3,7 +3,7 @@ use crate::rows::forward_row;
 use crate::rows::ground_row;
 use crate::rows::set;
 use printing::line;
-use projection::parameters::Parameters;
+use ellipsoid::parameters::Parameters;
 use trig::cosine;
 ghost use Rattle.sine_table.specs.Table.{IsTable};
 

@@ -7,7 +7,7 @@ use crate::rows::set;
 use integers::near;
 use printing::line;
 use printing::value;
-use projection::parameters::Parameters;
+use ellipsoid::parameters::Parameters;
 use trig::cosine;
 ghost use Rattle.sine_table.specs.Table.{IsTable};
 

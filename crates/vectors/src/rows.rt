@@ -12,8 +12,8 @@ use printing::words::word;
 use projection::forward::PlaneAnswer;
 use projection::inverse::GeodeticAnswer;
 use projection::inverse::inverse;
-use projection::latitude::Geodetic;
-use projection::parameters::Parameters;
+use ellipsoid::latitude::Geodetic;
+use ellipsoid::parameters::Parameters;
 
 // A set by its numbers, in the order of document 01's table.
 pub(crate) fn set(

@@ -7,9 +7,9 @@ use lib.IntN.{ℤ}
 use Rattle.proof_kit.proofs.Range.{returned}
 use Rattle.floats.specs.Limits.{within, latitudeLimit, longitudeLimit}
 use Rattle.floats.proofs.Coordinates.{latitude-is-longitude}
-use Rattle.projection.specs.declared.latitude.Geodetic.{Geodetic}
+use Rattle.ellipsoid.specs.declared.latitude.Geodetic.{Geodetic}
 use Rattle.projection.specs.ForwardSteps.{forwardOf, forwardPoint}
-use Rattle.projection.proofs.AcceptedSet.{both}
+use Rattle.ellipsoid.proofs.AcceptedSet.{both}
 use Rattle.projection.proofs.ForwardLaws.{forward-of-accepted}
 use Rattle.points.specs.declared.pairs.PlanePairAnswer.the-variants.{Refused}
 use Rattle.points.specs.Points.{forwardPair, onGlobe, latitudeMas, longitudeMas, inMetres}

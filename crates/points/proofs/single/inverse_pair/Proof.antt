@@ -6,7 +6,7 @@ use mathlib.Core.Bool.{true}
 use Rattle.proof_kit.proofs.Range.{returned}
 use Rattle.floats.specs.Limits.{within, planeLimit}
 use Rattle.projection.specs.InverseSteps.{inverseOf, inversePoint}
-use Rattle.projection.proofs.AcceptedSet.{both}
+use Rattle.ellipsoid.proofs.AcceptedSet.{both}
 use Rattle.projection.proofs.InverseLaws.{inverse-of-accepted}
 use Rattle.points.specs.declared.pairs.GeodeticPairAnswer.the-variants.{Refused as NotFound}
 use Rattle.points.specs.Points.{inversePair, onPlane, eastingCm, northingCm, inDegrees}

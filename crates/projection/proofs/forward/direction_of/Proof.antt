@@ -13,11 +13,11 @@ use Rattle.integers.specs.Near.{near}
 use Rattle.sine_table.specs.Table.{unit}
 use Rattle.trig.specs.Sine.{right-angle, sine, cosine}
 use Rattle.trig.proofs.Interface.{sine-size, cosine-size}
-use Rattle.projection.specs.declared.latitude.Authalic.{Authalic}
-use Rattle.projection.specs.Latitude.{betaMas}
+use Rattle.ellipsoid.specs.declared.latitude.Authalic.{Authalic}
+use Rattle.ellipsoid.specs.Latitude.{betaMas}
 use Rattle.projection.specs.ForwardSteps
 use Rattle.projection.specs.ForwardSteps.{b, u, v, w, G, directionOf}
-use Rattle.projection.proofs.AuthalicLaws.{beta-size}
+use Rattle.ellipsoid.proofs.AuthalicLaws.{beta-size}
 use Rattle.projection.proofs.ForwardLaws.{b-size, c-size, u-size, v-size, w-size, sum-size}
 use Rattle.projection.proofs.forward.direction_of.Statement.{statement}
 use Rattle.projection.proofs.forward.direction_of.Tie as tie

@@ -16,12 +16,12 @@ use Rattle.proof_kit.proofs.Size.{as-size}
 use Rattle.proof_kit.proofs.Order.{≤ℤ-trans, pos-≤ℤ, ltZ-true, ltZ-false, lt-leZ, le-leZ}
 use Rattle.integers.specs.Near.{near}
 use Rattle.trig.specs.Sine.{right-angle, half-turn}
-use Rattle.projection.specs.declared.constants.Constants.{Constants}
+use Rattle.ellipsoid.specs.declared.constants.Constants.{Constants}
 use Rattle.projection.specs.declared.forward.Direction.{Direction}
 use Rattle.projection.specs.declared.forward.PlaneAnswer.the-variants.{Plane}
-use Rattle.projection.specs.Derived.{constantsOf}
+use Rattle.ellipsoid.specs.Derived.{constantsOf}
 use Rattle.projection.specs.ForwardSteps.{H, u, w, dE, dN, directionOf, nearness, near-enough, on-globe}
-use Rattle.projection.proofs.AcceptedSet.{Accepted, accepted}
+use Rattle.ellipsoid.proofs.AcceptedSet.{Accepted, accepted}
 use Rattle.projection.proofs.ConstantsLaws.{Sound, sound, sound-as}
 use Rattle.projection.proofs.ForwardLaws.{u-size, w-size, G-size, H-least, H-most, globe-sizes, forward-off-globe, forward-too-far, forward-plane}
 use Rattle.projection.proofs.forward.forward_point.Statement.{statement}

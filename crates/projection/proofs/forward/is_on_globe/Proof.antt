@@ -7,7 +7,7 @@ use mir.Syntax.{w64}
 use mir.Val.{SFits}
 use mir.Facts.{toZ-ofZ}
 use Rattle.trig.specs.Sine.{right-angle, half-turn}
-use Rattle.projection.specs.ParameterSet.{within}
+use Rattle.ellipsoid.specs.ParameterSet.{within}
 use Rattle.projection.specs.ForwardSteps.{on-globe}
 use Rattle.projection.proofs.forward.is_on_globe.Statement.{statement}
 use Rattle.projection.proofs.forward.is_on_globe.Tie as tie

@@ -8,10 +8,10 @@ use lib.IntN.{ℤ, natAbs}
 use mir.Facts.{toZ-ofZ}
 use Rattle.proof_kit.proofs.Range.{code, fits, read, read-size}
 use Rattle.proof_kit.proofs.Size.{as-size}
-use Rattle.projection.specs.declared.parameters.Parameters.{Parameters}
-use Rattle.projection.specs.declared.constants.Constants.{Constants}
+use Rattle.ellipsoid.specs.declared.parameters.Parameters.{Parameters}
+use Rattle.ellipsoid.specs.declared.constants.Constants.{Constants}
 use Rattle.projection.specs.InverseSteps.{on-plane, unprojected}
-use Rattle.projection.proofs.AcceptedSet.{Accepted, accepted}
+use Rattle.ellipsoid.proofs.AcceptedSet.{Accepted, accepted}
 use Rattle.projection.proofs.InverseLaws.{inverse-off-plane, inverse-on-plane, plane-sizes}
 use Rattle.projection.proofs.inverse.inverse_point.Statement.{statement}
 use Rattle.projection.proofs.inverse.inverse_point.Tie as tie

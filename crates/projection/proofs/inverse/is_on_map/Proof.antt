@@ -8,7 +8,7 @@ use mir.Syntax.{w64}
 use mir.Val.{SFits, toZ, ofZ}
 use mir.Facts.{toZ-ofZ}
 use Rattle.proof_kit.proofs.Range.{code, fits, read}
-use Rattle.projection.specs.ParameterSet.{within}
+use Rattle.ellipsoid.specs.ParameterSet.{within}
 use Rattle.projection.specs.InverseSteps.{on-map}
 use Rattle.projection.proofs.inverse.is_on_map.Statement.{statement}
 use Rattle.projection.proofs.inverse.is_on_map.Tie as tie

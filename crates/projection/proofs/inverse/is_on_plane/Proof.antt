@@ -4,7 +4,7 @@ use mathlib.Core.Path.{ap₂, _∙_}
 use mathlib.Core.Bool.{_&&_}
 use lib.IntN.{ℤ, pos, negℤ}
 use mir.Facts.{toZ-ofZ}
-use Rattle.projection.specs.ParameterSet.{within}
+use Rattle.ellipsoid.specs.ParameterSet.{within}
 use Rattle.projection.specs.InverseSteps.{on-plane}
 use Rattle.projection.proofs.inverse.is_on_plane.Statement.{statement}
 use Rattle.projection.proofs.inverse.is_on_plane.Tie as tie

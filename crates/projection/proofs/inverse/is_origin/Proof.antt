@@ -4,7 +4,7 @@ use mathlib.Core.Path.{ap₂, _∙_}
 use mathlib.Core.Bool.{_&&_}
 use lib.IntN.{ℤ, pos}
 use mir.Facts.{toZ-ofZ}
-use Rattle.projection.specs.ParameterSet.{within, same}
+use Rattle.ellipsoid.specs.ParameterSet.{within, same}
 use Rattle.projection.specs.InverseSteps.{at-origin}
 use Rattle.projection.proofs.inverse.is_origin.Statement.{statement}
 use Rattle.projection.proofs.inverse.is_origin.Tie as tie

@@ -14,7 +14,7 @@ use Rattle.integers.specs.Near.{near}
 use Rattle.sine_table.specs.Table.{unit}
 use Rattle.projection.specs.ForwardSteps.{H}
 use Rattle.projection.specs.InverseSteps.{G, up, level, zOf, fOf, pointOf}
-use Rattle.projection.proofs.Calls.{back, back-is}
+use Rattle.ellipsoid.proofs.Calls.{back, back-is}
 use Rattle.projection.proofs.InverseLaws.{G-least, G-most, up-size, H-small, level-size, point-sized}
 use Rattle.projection.proofs.inverse.point.Statement.{statement}
 use Rattle.projection.proofs.inverse.point.Tie as tie

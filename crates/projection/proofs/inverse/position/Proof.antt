@@ -6,7 +6,7 @@ use lib.IntN.{ℤ, natAbs, _+ℤ_}
 use Rattle.proof_kit.proofs.Range.{code, fits, read, read-size, returned}
 use Rattle.proof_kit.proofs.Size.{as-size}
 use Rattle.projection.specs.declared.inverse.GeodeticAnswer.the-variants.{Position}
-use Rattle.projection.specs.Latitude.{geodetic}
+use Rattle.ellipsoid.specs.Latitude.{geodetic}
 use Rattle.projection.specs.InverseSteps.{wrapped, positionOf}
 use Rattle.projection.proofs.AngleLaws.{latitude-size, longitude-size}
 use Rattle.projection.proofs.inverse.position.Statement.{statement}

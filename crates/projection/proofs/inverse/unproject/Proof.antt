@@ -14,12 +14,12 @@ use Rattle.proof_kit.proofs.Order.{ltZ-true, ltZ-false, lt-leZ, le-leZ, pos-≤
 use Rattle.integers.specs.Near.{near}
 use Rattle.trig.specs.Sine.{half-turn}
 use Rattle.projection.specs.declared.inverse.GeodeticAnswer.the-variants.{Position}
-use Rattle.projection.specs.Derived.{U}
+use Rattle.ellipsoid.specs.Derived.{U}
 use Rattle.projection.specs.ForwardSteps.{near-enough}
 use Rattle.projection.specs.InverseSteps.{dropOf, G, Sized, positionOf, at-origin, on-map, X, Y, K, found}
-use Rattle.projection.proofs.AcceptedSet.{accepted, Between}
+use Rattle.ellipsoid.proofs.AcceptedSet.{accepted, Between}
 use Rattle.projection.proofs.ConstantsLaws.{Sound, sound-as}
-use Rattle.projection.proofs.Calls.{back, back-is}
+use Rattle.ellipsoid.proofs.Calls.{back, back-is}
 use Rattle.projection.proofs.InverseLaws.{K-natural, K-near, drop-size, point-sized, OnMap, map-sizes, unprojected-origin, unprojected-off-map, unprojected-too-far, unprojected-position}
 use Rattle.projection.proofs.inverse.unproject.Statement.{statement}
 use Rattle.projection.proofs.inverse.unproject.Tie as tie

@@ -8,8 +8,8 @@ use mir.Val.{toZ, ofZ}
 use Rattle.proof_kit.proofs.Range.{kept}
 use Rattle.trig.specs.Sine.{cosine}
 use Rattle.trig.proofs.Interface.{cosine-size}
-use Rattle.projection.specs.declared.latitude.Authalic.{Authalic}
-use Rattle.projection.proofs.AuthalicLaws.{beta-size}
+use Rattle.ellipsoid.specs.declared.latitude.Authalic.{Authalic}
+use Rattle.ellipsoid.proofs.AuthalicLaws.{beta-size}
 use Rattle.round_trips.proofs.gaps.weight.Statement.{statement}
 use Rattle.round_trips.proofs.gaps.weight.Tie as tie
 

@@ -9,7 +9,7 @@ use lib.IntN.{natAbs}
 use mir.Syntax.{w64}
 use mir.Val.{toZ, ofZ}
 use Rattle.trig.specs.Sine.{right-angle, half-turn}
-use Rattle.projection.proofs.AcceptedSet.{both, within-size}
+use Rattle.ellipsoid.proofs.AcceptedSet.{both, within-size}
 use Rattle.round_trips.proofs.ReadBack.{read-size}
 use Rattle.round_trips.proofs.trips.compared.Statement.{statement}
 use Rattle.round_trips.proofs.trips.compared.Tie as tie

@@ -2,7 +2,7 @@
 use borrow.Author.Needs.{needs}
 use Rattle.proof_kit.proofs.Range.{code, fits, read-size}
 use Rattle.proof_kit.proofs.Size.{as-size}
-use Rattle.projection.proofs.AcceptedSet.{accepted}
+use Rattle.ellipsoid.proofs.AcceptedSet.{accepted}
 use Rattle.projection.proofs.ConstantsLaws.{sound-as}
 use Rattle.round_trips.proofs.trips.nearness.Statement.{statement}
 use Rattle.round_trips.proofs.trips.nearness.Tie as tie

@@ -3,7 +3,7 @@ use borrow.Author.Needs.{needs}
 use mathlib.Core.Path.{_≡_}
 use lib.Dec.{lit<}
 use Rattle.proof_kit.proofs.Range.{kept}
-use Rattle.projection.specs.ParameterSet.{setRefusal}
+use Rattle.ellipsoid.specs.ParameterSet.{setRefusal}
 use Rattle.projection.proofs.ConstantsLaws.{sound-as}
 use Rattle.vectors.proofs.reverse_series.engine.Statement.{statement}
 use Rattle.vectors.proofs.reverse_series.engine.Tie as tie

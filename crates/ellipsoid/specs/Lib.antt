@@ -1,0 +1,3 @@
+pub mod ParameterSet
+pub mod Latitude
+pub mod Derived
