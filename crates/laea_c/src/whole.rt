@@ -2,11 +2,11 @@
 use crate::parameters::set;
 use cells::CellAnswer;
 use cells::cell;
+use ellipsoid::latitude::Geodetic;
 use projection::forward::PlaneAnswer;
 use projection::forward::forward;
 use projection::inverse::GeodeticAnswer;
 use projection::inverse::inverse;
-use ellipsoid::latitude::Geodetic;
 ghost use Rattle.cells.specs.Cells.{cellTold};
 ghost use Rattle.projection.specs.Answers.{forwardTold, inverseTold};
 ghost use Rattle.laea_c.specs.Calls.{setOf, Answered, AnswersWhole};

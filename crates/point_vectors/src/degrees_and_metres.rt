@@ -9,8 +9,8 @@ use crate::point_rows::refused;
 use crate::sets::etrs_laea;
 use crate::sets::no_set;
 use crate::sets::sphere;
-use printing::line;
 use ellipsoid::parameters::Parameters;
+use printing::line;
 
 // The names of the rows, counted from 0.
 fn name(k: usize) {

@@ -4,8 +4,8 @@ use crate::list_rows::list_refused;
 use crate::list_rows::list_row;
 use crate::sets::etrs_laea;
 use crate::sets::no_set;
-use printing::line;
 use ellipsoid::parameters::Parameters;
+use printing::line;
 ghost use Prim.Native.Nat.{_≤_};
 
 // The names of the rows, counted from 0.

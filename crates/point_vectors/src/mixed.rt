@@ -6,12 +6,12 @@ use crate::filled::NUMBER;
 use crate::list_rows::count_row;
 use crate::list_rows::run;
 use crate::point_rows::compare;
+use ellipsoid::parameters::Parameters;
 use points::pairs::Marked;
 use printing::size;
 use printing::verdict;
 use printing::words;
 use printing::words::word;
-use ellipsoid::parameters::Parameters;
 
 type Numbers = [f64; 8];
 

@@ -2,6 +2,7 @@
 // Its name is printed before it.
 use crate::doubles::bits;
 use crate::doubles::show_both;
+use ellipsoid::parameters::Parameters;
 use points::pairs::GeodeticPair;
 use points::pairs::GeodeticPairAnswer;
 use points::pairs::Marked;
@@ -13,7 +14,6 @@ use printing::refusal;
 use printing::verdict;
 use printing::words;
 use printing::words::word;
-use ellipsoid::parameters::Parameters;
 
 // An answer that is accepted.
 pub(crate) fn answer(first: f64, second: f64) -> Marked {

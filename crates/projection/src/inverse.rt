@@ -1,11 +1,11 @@
 // From easting and northing back to geodetic latitude and longitude, in whole units.
+use crate::forward::scale;
 use ellipsoid::billionths::difference;
 use ellipsoid::billionths::product;
 use ellipsoid::billionths::quotient;
 use ellipsoid::billionths::sum;
 use ellipsoid::constants::Constants;
 use ellipsoid::constants::constants_of;
-use crate::forward::scale;
 use ellipsoid::latitude::Authalic;
 use ellipsoid::latitude::AuthalicSeries;
 use ellipsoid::latitude::Geodetic;

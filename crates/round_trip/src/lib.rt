@@ -1,10 +1,10 @@
 // Demand 3: the round trip. The statement is in specs/RoundTrip.antt, its proof in proofs/.
+use ellipsoid::latitude::Geodetic;
+use ellipsoid::parameters::Parameters;
 use projection::forward::PlaneAnswer;
 use projection::forward::forward;
 use projection::inverse::GeodeticAnswer;
 use projection::inverse::inverse;
-use ellipsoid::latitude::Geodetic;
-use ellipsoid::parameters::Parameters;
 ghost use mathlib.Core.Path.{_≡_};
 ghost use Rattle.projection.specs.ForwardSteps.{forwardOf};
 ghost use Rattle.round_trip.specs.RoundTrip.{latitude-bound, gap-bound, RoundTripAt, thereAndBack};

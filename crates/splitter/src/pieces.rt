@@ -1,7 +1,7 @@
 // Lines of an input that comes in pieces of any size. A line that a piece does not end is carried to
 // the next.
-use lines::line::answer_at;
 use ellipsoid::constants::Constants;
+use lines::line::answer_at;
 ghost use mathlib.Core.Path.{_≡_};
 ghost use mathlib.Core.List.{[], _++_};
 ghost use Prim.Native.Nat.{_+_, _*_, _-_, _≤_};

@@ -1,9 +1,9 @@
 // ETRS-LAEA with one field, or one coordinate, out of its limits: refused, never wrapped.
 use crate::rows::refused_row;
 use crate::rows::set;
+use ellipsoid::parameters::Parameters;
 use printing::line;
 use printing::value;
-use ellipsoid::parameters::Parameters;
 
 const LEAST: i64 = -9223372036854775808;
 

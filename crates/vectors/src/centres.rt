@@ -2,8 +2,8 @@
 use crate::rows::forward_row;
 use crate::rows::inverse_row;
 use crate::rows::set;
-use printing::line;
 use ellipsoid::parameters::Parameters;
+use printing::line;
 
 // The names of the rows, counted from 0.
 fn name(k: usize) {

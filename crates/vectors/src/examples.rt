@@ -2,8 +2,8 @@
 use crate::rows::forward_row;
 use crate::rows::ground_row;
 use crate::rows::set;
-use printing::line;
 use ellipsoid::parameters::Parameters;
+use printing::line;
 use trig::cosine;
 ghost use Rattle.sine_table.specs.Table.{IsTable};
 

@@ -4,10 +4,10 @@ use crate::rows::forward_row;
 use crate::rows::inverse_row;
 use crate::rows::refused_row;
 use crate::rows::set;
+use ellipsoid::parameters::Parameters;
 use integers::near;
 use printing::line;
 use printing::value;
-use ellipsoid::parameters::Parameters;
 use trig::cosine;
 ghost use Rattle.sine_table.specs.Table.{IsTable};
 

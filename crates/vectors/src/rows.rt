@@ -3,6 +3,8 @@
 use crate::sizes::along_meridian;
 use crate::sizes::along_parallel;
 use crate::sizes::gap;
+use ellipsoid::latitude::Geodetic;
+use ellipsoid::parameters::Parameters;
 use printing::number;
 use printing::refusal;
 use printing::size;
@@ -12,8 +14,6 @@ use printing::words::word;
 use projection::forward::PlaneAnswer;
 use projection::inverse::GeodeticAnswer;
 use projection::inverse::inverse;
-use ellipsoid::latitude::Geodetic;
-use ellipsoid::parameters::Parameters;
 
 // A set by its numbers, in the order of document 01's table.
 pub(crate) fn set(
