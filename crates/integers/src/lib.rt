@@ -48,13 +48,14 @@ pub fn near(n: i64, d: u64) -> i64
     signed(n < 0, nearest(magnitude(n), d))
 }
 
-// root(n), by Newton's iteration from above. The first guess is a power of two less one whose
-// successor's square is above n; while its square is above n, (r + n/r)/2 is smaller and not below
-// the root.
+// root(n), by Newton's iteration from above. The first guess p is a power of two whose square is above
+// n, and its step needs no division; while the square of r is above n, (r + n/r)/2 is smaller and not
+// below the root.
 pub fn root(n: u64) -> u64
     ensures { λ r. ⌜ r ≡ root n ⌝ }
 {
-    let mut r = (1u64 << ((65 - u64::leading_zeros(n)) / 2)) - 1;
+    let p = 1u64 << ((65 - u64::leading_zeros(n)) / 2);
+    let mut r = (p + n / p) / 2;
     while n < r * r {
         r = (r + n / r) / 2;
     }

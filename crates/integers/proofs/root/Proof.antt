@@ -2,7 +2,7 @@
 -- and r is below 2^32, which keeps its square within 64 bits. The measure is r. Assumes nothing.
 use mathlib.Core.Path.{_≡_, sym, _∙_, subst}
 use Prim.Native.Nat.{ℕ, _+_, _-_, _*_, _/_, _%_, _^_, _≤_, _<_}
-use native.Mathlib.Nat.{le-trans, lt-of-lt-of-le, lt-of-le-of-lt}
+use native.Mathlib.Nat.{le-trans, le-of-lt, lt-of-lt-of-le, lt-of-le-of-lt}
 use native.Mathlib.Omega.{arith}
 use lib.Dec.{lit<, lit≤}
 use lib.Pow.{pow-mono, pow-add, pow-pos, shl-exact}
@@ -20,7 +20,7 @@ half zeros = (65 - zeros) / 2
 half-small : (z : ℕ) → half z ≤ 32
 half-small z = omega arith
 
--- the first guess is 2^k − 1, with 2k at least the number of n's binary digits
+-- the first guess is 2^k, with 2k at least the number of n's binary digits; the loop starts one step after it
 module _ (n : ℕ) (h : n < 2 ^ 64) where
   k : ℕ
   k = half (leadingZeros 64 n)
@@ -39,16 +39,27 @@ module _ (n : ℕ) (h : n < 2 ^ 64) where
       subst (λ (x : ℕ). n < x) (pow-add 2 k k)
       (lt-of-lt-of-le (digits .2) (pow-mono {i = digits .0} {j = k + k} (omega (arith, digits .1))))
 
-  powers : (p : ℕ) → 0 < p → p ≤ 2 ^ 32 → n < p * p → Above n (p - 1)
-  powers p z small b =
-      let e : p - 1 + 1 ≡ p = omega arith in
-      (subst (λ (x : ℕ). n < x * x) (sym e) b, omega arith)
+  guess : ℕ
+  guess = (1 * 2 ^ half (leadingZeros 64 n)) % 2 ^ 64
 
-  first : Above n ((1 * 2 ^ half (leadingZeros 64 n)) % 2 ^ 64 - 1)
-  unfolding k
-  first =
-      subst (λ (p : ℕ). Above n (p - 1)) (sym exact)
-      (powers (2 ^ k) (pow-pos k) (pow-mono {i = k} {j = 32} (half-small (leadingZeros 64 n))) below)
+  guess-some : 0 < guess
+  unfolding guess
+  guess-some = rw exact (pow-pos k)
+
+  guess-small : guess ≤ 2 ^ 32
+  unfolding guess k
+  guess-small = rw exact (pow-mono {i = k} {j = 32} (half-small (leadingZeros 64 n)))
+
+  guess-above : n < guess * guess
+  unfolding guess
+  guess-above = rw exact below
+
+-- a step of the iteration from above
+step-above : (n r : ℕ) → n < r * r → r ≤ 2 ^ 32 → Above n ((r + n / r) / 2)
+step-above n r h small = (newton-above n r (positive n r h), lt-of-lt-of-le (newton-below n r h) small)
+
+step-fits : (n r : ℕ) → n < r * r → r ≤ 2 ^ 32 → r + n / r < 2 ^ 64
+step-fits n r h small = omega (arith, quotient-below n r h)
 
 square-fits : (r : ℕ) → r < 2 ^ 32 → r * r < 2 ^ 64
 square-fits r h =
@@ -56,48 +67,49 @@ square-fits r h =
     lt-of-le-of-lt (square-mono small) (lit< tt)
 
 abbrev Inv-loop : tie.InvT-loop
-Inv-loop n r₀ r = Above n r
+Inv-loop n p r₀ r = Above n r
 
 abbrev μ-loop : tie.MeasureT-loop
-μ-loop n r₀ r = r
+μ-loop n p r₀ r = r
 
-sub-r : tie.Need-sub-r Inv-loop μ-loop
-sub-r c = le-trans (leading-le 64 (c .args .n)) (lit≤ tt)
+sub-p : tie.Need-sub-p Inv-loop μ-loop
+sub-p c = le-trans (leading-le 64 (c .args .n)) (lit≤ tt)
 
-cast-r : tie.Need-cast-r Inv-loop μ-loop
-cast-r c = record { fits = omega (arith, half-small (leadingZeros 64 (c .args .n))) }
+cast-p : tie.Need-cast-p Inv-loop μ-loop
+cast-p c = record { fits = omega (arith, half-small (leadingZeros 64 (c .args .n))) }
 
-shl-r : tie.Need-shl-r Inv-loop μ-loop
-shl-r c = omega (arith, half-small (leadingZeros 64 (c .args .n)))
+shl-p : tie.Need-shl-p Inv-loop μ-loop
+shl-p c = omega (arith, half-small (leadingZeros 64 (c .args .n)))
 
-sub-r-2 : tie.Need-sub-r-2 Inv-loop μ-loop
-sub-r-2 c = rw (exact (c .args .n) (c .fits .n .fits)) (pow-pos (k (c .args .n) (c .fits .n .fits)))
+div-r : tie.Need-div-r Inv-loop μ-loop
+unfolding guess
+div-r c = guess-some (c .args .n) (c .fits .n .fits)
+
+add-r : tie.Need-add-r Inv-loop μ-loop
+unfolding guess
+add-r c = let n = c .args .n in let h = c .fits .n .fits in record { fits = step-fits n (guess n h) (guess-above n h) (guess-small n h) }
 
 loop-holds : tie.Need-loop-holds Inv-loop μ-loop
-loop-holds c = first (c .args .n) (c .fits .n .fits)
+unfolding guess
+loop-holds c = let n = c .args .n in let h = c .fits .n .fits in step-above n (guess n h) (guess-above n h) (guess-small n h)
 
 mul-loop : tie.Need-mul-loop Inv-loop μ-loop
 mul-loop c = record { fits = square-fits (c .loop .r) (c .loop .inv .1) }
 
-div-r : tie.Need-div-r Inv-loop μ-loop
-div-r c = positive (c .before .before .args .n) (c .before .loop .r) (c .loop-test .taken)
+div-r-2 : tie.Need-div-r-2 Inv-loop μ-loop
+div-r-2 c = positive (c .before .before .args .n) (c .before .loop .r) (c .loop-test .taken)
 
-add-r : tie.Need-add-r Inv-loop μ-loop
-add-r c =
+add-r-2 : tie.Need-add-r-2 Inv-loop μ-loop
+add-r-2 c =
     record {
-      fits = omega (arith, quotient-below (c .before .before .args .n) (c .before .loop .r) (c .loop-test .taken), c .before .loop .inv .1);
+      fits = step-fits (c .before .before .args .n) (c .before .loop .r) (c .loop-test .taken) (le-of-lt (c .before .loop .inv .1));
     }
 
 loop-less : tie.Need-loop-less Inv-loop μ-loop
 loop-less c = newton-below (c .before .before .args .n) (c .before .loop .r) (c .loop-test .taken)
 
 loop-again : tie.Need-loop-again Inv-loop μ-loop
-loop-again c =
-    let n : ℕ = c .before .before .args .n in
-    let r : ℕ = c .before .loop .r in (
-      newton-above n r (positive n r (c .loop-test .taken)),
-      omega (arith, newton-below n r (c .loop-test .taken), c .before .loop .inv .1),
-    )
+loop-again c = step-above (c .before .before .args .n) (c .before .loop .r) (c .loop-test .taken) (le-of-lt (c .before .loop .inv .1))
 
 returns : tie.Need-returns Inv-loop μ-loop
 returns c = sym (root-is (c .before .before .args .n) (c .before .loop .r) (c .loop-test .left) (c .before .loop .inv .0))
@@ -105,4 +117,4 @@ returns c = sym (root-is (c .before .before .args .n) (c .before .loop .r) (c .l
 pub root-spec : {M : Type 1} → statement M
 root-spec =
     tie.close
-    (tie.spec Inv-loop μ-loop sub-r cast-r shl-r sub-r-2 loop-holds mul-loop div-r add-r loop-less loop-again returns)
+    (tie.spec Inv-loop μ-loop sub-p cast-p shl-p div-r add-r loop-holds mul-loop div-r-2 add-r-2 loop-less loop-again returns)
