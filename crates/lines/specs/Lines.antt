@@ -33,12 +33,12 @@ pairText first x second y = (first ++ numberText x) ++ (second ++ numberText y)
 
 -- "E 432100000 N 321000000"
 abbrev pub planeText : PlaneAnswer → List ℕ
-planeText (Plane E N) = (69 ∷ space ∷ numberText E) ++ (space ∷ 78 ∷ space ∷ numberText N)
+planeText (Plane E N) = pairText (69 ∷ space ∷ []) E (space ∷ 78 ∷ space ∷ []) N
 planeText (Refused number) = refusedText number
 
 -- "P 187200000 36000000"
 abbrev pub positionText : GeodeticAnswer → List ℕ
-positionText (Position φ lon) = (80 ∷ space ∷ numberText (φ .0)) ++ (space ∷ numberText lon)
+positionText (Position φ lon) = pairText (80 ∷ space ∷ []) (φ .0) (space ∷ []) lon
 positionText (NotFound number) = refusedText number
 
 -- "bad line"

@@ -11,7 +11,7 @@ use lib.Signed.{_≤ℤ_, _<ℤ_, ltZ}
 use mir.Syntax.{w64}
 use mir.Val.{toZ, ofZ}
 use Rattle.proof_kit.proofs.Laws.{natAbs-parts, parts-+, parts--}
-use Rattle.proof_kit.proofs.Order.{order, ≤ℤ-total, abs-between, <ℤ-≤ℤ, le-leZ, lt-leZ, le-ltZ, lt-ltZ}
+use Rattle.proof_kit.proofs.Order.{order, ≤ℤ-total, le-leZ, lt-leZ, le-ltZ, lt-ltZ}
 use Rattle.proof_kit.proofs.Range.{kept}
 use Rattle.proof_kit.proofs.Size.{abs-neg}
 use Rattle.integers.specs.Near.{signed}
@@ -105,6 +105,3 @@ module _ (lon : ℤ) where
       at (inl h) o = rw (wrapped-low h) (omega (order, natAbs-parts lon, parts-+ lon (pos full-turn)))
       at (inr h) (inl l) = rw (wrapped-between h l) (h, l)
       at (inr h) (inr l) = rw (wrapped-high l) (omega (order, natAbs-parts lon, parts-- lon (pos full-turn)))
-
-  pub wrapped-size : natAbs lon ≤ 2 * half-turn → natAbs (wrapped lon) ≤ half-turn
-  wrapped-size size = let r = wrapped-range size in abs-between (wrapped lon) (<ℤ-≤ℤ (r .0)) (r .1)

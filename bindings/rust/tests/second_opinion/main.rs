@@ -1,5 +1,5 @@
 //! A second opinion on the archive: the rules of the papers written a second time, plainly and
-//! slowly, from the papers alone, and every call of the archive held to it on random and hostile
+//! slowly, without sight of the Rattle code, and every call of the archive held to it on random and hostile
 //! input, bit for bit.
 //!
 //! `LAEA_INPUTS` sets the number of inputs for each call (1,000,000 without it), `LAEA_SEED` the
