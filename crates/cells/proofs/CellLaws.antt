@@ -12,7 +12,7 @@ use Rattle.proof_kit.proofs.Laws.{natAbs-parts, parts--, one-part, P-*, N-*}
 use Rattle.proof_kit.proofs.Ring.{ring, quote}
 use Rattle.proof_kit.proofs.Size.{abs-neg, abs-mul}
 use Rattle.integers.specs.Near.{signed}
-use Rattle.projection.specs.InverseSteps.{on-plane}
+use Rattle.units.specs.Spans.{on-plane}
 use Rattle.cells.specs.declared.CellAnswer.{CellAnswer}
 use Rattle.cells.specs.declared.CellAnswer.the-variants.{Cell, Refused}
 use Rattle.cells.specs.Cells.{accepted-side, cellNumber, InCell, cellOf, cell-told}

@@ -9,8 +9,8 @@ use mir.Syntax.{w64}
 use mir.Val.{SFits, toZ, ofZ}
 use mir.Facts.{toZ-ofZ}
 use Rattle.integers.proofs.Greatest.{not-true}
-use Rattle.ellipsoid.specs.ParameterSet.{within, same}
-use Rattle.ellipsoid.proofs.AcceptedSet.{same-equal}
+use Rattle.units.specs.Spans.{within, same}
+use Rattle.units.proofs.Spans.{same-equal}
 use Rattle.cells.specs.Cells.{accepted-side}
 
 -- a side that is held as the bits of an accepted one is accepted

@@ -1,8 +1,7 @@
 -- One call for each kind of answer: cells, a side refused, a coordinate refused. Assumes nothing.
 use mathlib.Core.Path.{_≡_, refl}
 use lib.IntN.{pos, negsuc}
-use Rattle.ellipsoid.specs.ParameterSet.{within, same}
-use Rattle.projection.specs.InverseSteps.{on-plane}
+use Rattle.units.specs.Spans.{within, same, on-plane}
 use Rattle.cells.specs.declared.CellAnswer.the-variants.{Cell, Refused}
 use Rattle.cells.specs.Cells.{accepted-side, cellNumber, cellOf}
 

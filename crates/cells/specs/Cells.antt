@@ -4,9 +4,9 @@ use mathlib.Core.Bool.{Bool, cond, _||_}
 use lib.IntN.{ℤ, pos, natAbs, _-ℤ_, _*ℤ_}
 use lib.Signed.{ltZ}
 use Rattle.integers.specs.Near.{signed}
-use Rattle.ellipsoid.specs.ParameterSet.{same, unless}
-use Rattle.projection.specs.InverseSteps.{on-plane}
-use Rattle.projection.specs.Answers.{Told, accepted, refused, told}
+use Rattle.units.specs.Spans.{same, on-plane}
+use Rattle.units.specs.Refusals.{unless}
+use Rattle.units.specs.Answers.{Told, accepted, refused, told}
 use Rattle.cells.specs.declared.CellAnswer.{CellAnswer}
 use Rattle.cells.specs.declared.CellAnswer.the-variants.{Cell, Refused}
 

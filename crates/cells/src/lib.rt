@@ -1,7 +1,7 @@
 // The cell of a position: document 01, "Cells". Sides and coordinates are in cm.
 use integers::magnitude;
 use integers::signed;
-use projection::inverse::is_on_plane;
+use units::is_on_plane;
 ghost use mathlib.Core.Path.{_≡_};
 ghost use mathlib.Core.Bool.{true};
 ghost use Prim.Native.Nat.{_/_, _^_, _<_, _≤_};

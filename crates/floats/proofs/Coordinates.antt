@@ -13,7 +13,8 @@ use lib.Ieee.{Float, nan, inf, fin, up, down}
 use lib.Ieee.Fits.{down-pos}
 use Rattle.integers.specs.Near.{nearest, signed}
 use Rattle.integers.proofs.Rounding.{nearest-only, nearest-mono, nearest-whole, nearest-zero}
-use Rattle.floats.specs.Units.{degree, metre, wholeOf, floatOf}
+use Rattle.units.specs.Units.{degree, metre}
+use Rattle.floats.specs.Conversion.{wholeOf, floatOf}
 use Rattle.floats.specs.Limits.{isFinite, beyond, within, latitudeLimit, longitudeLimit, planeLimit}
 use Rattle.floats.proofs.Signs.{negative, signed-again, signed-size, signed-zero}
 use Rattle.floats.proofs.Bounds.{AtMost, at-most-finite, at-most-value, within-at-most, at-most-within, within-more}

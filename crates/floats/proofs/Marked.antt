@@ -7,7 +7,8 @@ use Prim.Native.Nat.{_+_, _*_, _^_}
 use lib.IntN.{pos, negsuc, negℤ}
 use lib.Ieee.{nan, fin, binary64, lt, neg, div, ofInt}
 use Rattle.integers.specs.Near.{nearest}
-use Rattle.floats.specs.Units.{degree, metre, wholeOf, floatOf}
+use Rattle.units.specs.Units.{degree, metre}
+use Rattle.floats.specs.Conversion.{wholeOf, floatOf}
 use Rattle.floats.specs.Limits.{isFinite, beyond, within, latitudeLimit, longitudeLimit, planeLimit}
 
 pub degree-256th : wholeOf degree (fin false 1 (negsuc 7)) ≡ pos 14_063

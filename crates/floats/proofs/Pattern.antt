@@ -10,7 +10,7 @@ use lib.Ieee.Bits.{ofBits-toBits}
 use lib.Ieee.Exact.{HasValue, odd-sign}
 use lib.Ieee.Fits.{down-pos}
 use Rattle.integers.specs.Near.{nearest, signed}
-use Rattle.floats.specs.Units.{wholeOf}
+use Rattle.floats.specs.Conversion.{wholeOf}
 use Rattle.floats.specs.Limits.{isFinite}
 use Rattle.floats.proofs.Fractions.{nearest-same}
 

@@ -8,7 +8,7 @@ use native.Mathlib.Omega.{arith}
 use lib.Dec.{lit<, lit≤}
 use lib.Pow.{pow-add, pow-pos, pow-mono, shl-lt, shl-exact}
 use Rattle.integers.specs.Near.{nearest}
-use Rattle.floats.specs.Units.{degree}
+use Rattle.units.specs.Units.{degree}
 use Rattle.floats.proofs.Fractions.{nearest-same, nearest-none, nearest-cut, product-parts}
 use Rattle.floats.proofs.Pattern.{sizeOf}
 

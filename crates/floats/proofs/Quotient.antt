@@ -19,7 +19,7 @@ use lib.Ieee.Back.{round-whole}
 use mir.Syntax.{w64}
 use mir.Val.{toZ, ofZ, SFits}
 use mir.Facts.{toZ-ofZ}
-use Rattle.floats.specs.Units.{floatOf}
+use Rattle.floats.specs.Conversion.{floatOf}
 use Rattle.floats.proofs.Signs.{negative}
 
 -- ---- the rounding of n/k, counted in 2^−l, to 53 binary digits

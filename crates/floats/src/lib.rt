@@ -3,7 +3,8 @@
 ghost use mathlib.Core.Path.{_≡_};
 ghost use mathlib.Core.Bool.{true};
 ghost use Prim.Native.Nat.{_≤_};
-ghost use Rattle.floats.specs.Units.{degree, metre, wholeOf, floatOf};
+ghost use Rattle.units.specs.Units.{degree, metre};
+ghost use Rattle.floats.specs.Conversion.{wholeOf, floatOf};
 ghost use Rattle.floats.specs.Limits.{isFinite, within, latitudeLimit, longitudeLimit, planeLimit};
 use integers::nearest;
 use integers::signed;

@@ -1,7 +1,7 @@
 // Reads lines from standard input and answers each on standard output, for ETRS-LAEA in whole units.
-use ellipsoid::constants::Constants;
-use ellipsoid::constants::constants_of;
-use ellipsoid::parameters::Parameters;
+use constants::Constants;
+use constants::constants_of;
+use parameters::Parameters;
 use libc::STDIN_FILENO;
 use libc::STDOUT_FILENO;
 use splitter::pieces::Carried;
@@ -12,8 +12,8 @@ ghost use mathlib.Core.Path.{_≡_};
 ghost use Prim.Native.Nat.{_≤_};
 ghost use lib.ListN.{length};
 ghost use Rattle.sine_table.specs.Table.{IsTable};
-ghost use Rattle.ellipsoid.specs.ParameterSet.{etrsLaea};
-ghost use Rattle.ellipsoid.specs.Derived.{constantsOf};
+ghost use Rattle.parameters.specs.ParameterSet.{etrsLaea};
+ghost use Rattle.constants.specs.Derived.{constantsOf};
 
 // The part of a line that is carried to the next turn, and whether there is one.
 struct Turn {

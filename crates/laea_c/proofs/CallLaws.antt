@@ -8,8 +8,8 @@ use lib.Ieee.{Float}
 use mir.Syntax.{w64}
 use mir.Val.{SFits, toZ, ofZ}
 use mir.Facts.{toZ-ofZ}
-use Rattle.ellipsoid.specs.declared.parameters.Parameters.{Parameters}
-use Rattle.projection.specs.Answers.{Told}
+use Rattle.parameters.specs.declared.Parameters.{Parameters}
+use Rattle.units.specs.Answers.{Told}
 use Rattle.points.specs.declared.pairs.Marked.{Marked}
 use Rattle.laea_c.specs.Calls.{setOf, Answered, AnswersFloats, AnswersWhole}
 

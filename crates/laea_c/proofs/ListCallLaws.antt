@@ -9,9 +9,9 @@ use lib.IntN.{ℤ}
 use lib.Dec.{eqb, leb}
 use lib.Ieee.{Float}
 use lib.ListN.{length}
-use Rattle.ellipsoid.specs.declared.parameters.Parameters.{Parameters}
-use Rattle.ellipsoid.specs.ParameterSet.{unless, setRefusal}
-use Rattle.projection.specs.Answers.{firstOf}
+use Rattle.parameters.specs.declared.Parameters.{Parameters}
+use Rattle.units.specs.Refusals.{unless, firstOf}
+use Rattle.parameters.specs.ParameterSet.{setRefusal}
 use Rattle.points.specs.declared.pairs.Marked.{Marked}
 use Rattle.points.specs.declared.lists.ListAnswer.{ListAnswer}
 use Rattle.points.specs.Lists.{rows, marks, lengthRefusal, listRefusal, zeros, written, Counted, list-told, counted, ListCall}

@@ -5,8 +5,8 @@ use mathlib.Core.Path.{_≡_}
 use mathlib.Core.List.{List, [], _∷_}
 use lib.IntN.{ℤ, pos, negℤ}
 use lib.Ieee.{Float}
-use Rattle.ellipsoid.specs.declared.parameters.Parameters.{Parameters}
-use Rattle.projection.specs.Answers.{Told}
+use Rattle.parameters.specs.declared.Parameters.{Parameters}
+use Rattle.units.specs.Answers.{Told}
 use Rattle.points.specs.declared.pairs.Marked.{Marked}
 use Rattle.points.specs.declared.lists.ListAnswer.{ListAnswer}
 use Rattle.points.specs.declared.lists.ListAnswer.the-variants.{Count, Refused}

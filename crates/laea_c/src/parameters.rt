@@ -1,6 +1,6 @@
 // The parameter set that a call's first six arguments are.
-use ellipsoid::latitude::Geodetic;
-use ellipsoid::parameters::Parameters;
+use latitudes::Geodetic;
+use parameters::Parameters;
 ghost use mathlib.Core.Path.{_≡_};
 ghost use Rattle.laea_c.specs.Calls.{setOf};
 

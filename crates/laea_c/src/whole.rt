@@ -2,13 +2,14 @@
 use crate::parameters::set;
 use cells::CellAnswer;
 use cells::cell;
-use ellipsoid::latitude::Geodetic;
-use projection::forward::PlaneAnswer;
-use projection::forward::forward;
-use projection::inverse::GeodeticAnswer;
-use projection::inverse::inverse;
+use latitudes::Geodetic;
+use azimuthal_forward::PlaneAnswer;
+use azimuthal_forward::forward;
+use azimuthal_inverse::GeodeticAnswer;
+use azimuthal_inverse::inverse;
 ghost use Rattle.cells.specs.Cells.{cellTold};
-ghost use Rattle.projection.specs.Answers.{forwardTold, inverseTold};
+ghost use Rattle.azimuthal_forward.specs.Answer.{forwardTold};
+ghost use Rattle.azimuthal_inverse.specs.Answer.{inverseTold};
 ghost use Rattle.laea_c.specs.Calls.{setOf, Answered, AnswersWhole};
 
 // Writes the two values where the refusal number is 0, and only there. Returns the number.

@@ -9,14 +9,14 @@ use lib.Dec.{eqb, lit≤}
 use lib.IntN.{ℤ}
 use lib.ListN.{length, length-append}
 use Rattle.proof_kit.proofs.Order.{abs-between, <ℤ-≤ℤ}
-use Rattle.projection.specs.declared.forward.PlaneAnswer.{PlaneAnswer}
-use Rattle.projection.specs.declared.forward.PlaneAnswer.the-variants.{Plane, Refused}
-use Rattle.projection.specs.declared.inverse.GeodeticAnswer.{GeodeticAnswer}
-use Rattle.projection.specs.declared.inverse.GeodeticAnswer.the-variants.{Position, Refused as NotFound}
-use Rattle.ellipsoid.specs.ParameterSet.{etrsLaea}
-use Rattle.projection.specs.ForwardSteps.{forwardOf}
-use Rattle.projection.specs.InverseSteps.{inverseOf}
-use Rattle.projection.proofs.InverseLaws.{plane-sizes}
+use Rattle.azimuthal_forward.specs.declared.PlaneAnswer.{PlaneAnswer}
+use Rattle.azimuthal_forward.specs.declared.PlaneAnswer.the-variants.{Plane, Refused}
+use Rattle.azimuthal_inverse.specs.declared.GeodeticAnswer.{GeodeticAnswer}
+use Rattle.azimuthal_inverse.specs.declared.GeodeticAnswer.the-variants.{Position, Refused as NotFound}
+use Rattle.parameters.specs.ParameterSet.{etrsLaea}
+use Rattle.azimuthal_forward.specs.Answer.{forwardOf}
+use Rattle.azimuthal_inverse.specs.Answer.{inverseOf}
+use Rattle.units.proofs.Spans.{plane-sizes}
 use Rattle.projection_laws.specs.Theorems.{OneOfThree}
 use Rattle.projection_laws.proofs.Ranges.{position-in-range}
 use Rattle.projection_laws.proofs.Refusals.{forward-numbers, inverse-numbers}

@@ -8,14 +8,15 @@ use lib.IntN.{ℤ, pos}
 use mir.Syntax.{w64}
 use mir.Val.{toZ}
 use mir.Facts.{toZ-pos}
-use Rattle.ellipsoid.specs.declared.parameters.Parameters.{Parameters}
-use Rattle.projection.specs.declared.forward.PlaneAnswer.{PlaneAnswer}
-use Rattle.projection.specs.declared.inverse.GeodeticAnswer.{GeodeticAnswer}
-use Rattle.ellipsoid.specs.ParameterSet.{within, same, polar, accepted-a, accepted-e2, accepted-lat0, accepted-lon0, accepted-false, firstRefusal, setRefusal, etrsLaea}
-use Rattle.projection.specs.ForwardSteps.{forwardPoint}
-use Rattle.projection.specs.InverseSteps.{inversePoint}
-use Rattle.projection.proofs.ForwardLaws.{forward-of-accepted}
-use Rattle.projection.proofs.InverseLaws.{inverse-of-accepted}
+use Rattle.parameters.specs.declared.Parameters.{Parameters}
+use Rattle.azimuthal_forward.specs.declared.PlaneAnswer.{PlaneAnswer}
+use Rattle.azimuthal_inverse.specs.declared.GeodeticAnswer.{GeodeticAnswer}
+use Rattle.units.specs.Spans.{within, same}
+use Rattle.parameters.specs.ParameterSet.{polar, accepted-a, accepted-e2, accepted-lat0, accepted-lon0, accepted-false, firstRefusal, setRefusal, etrsLaea}
+use Rattle.azimuthal_forward.specs.Steps.{forwardPoint}
+use Rattle.azimuthal_inverse.specs.Steps.{inversePoint}
+use Rattle.azimuthal_forward.proofs.ForwardLaws.{forward-of-accepted}
+use Rattle.azimuthal_inverse.proofs.InverseLaws.{inverse-of-accepted}
 use Rattle.lines.specs.declared.line.Request.{Request}
 use Rattle.lines.specs.declared.line.Request.the-variants.{Forward, Inverse}
 use Rattle.lines.specs.Numbers.{decimal, numberText}

@@ -14,7 +14,7 @@ use lib.ListN.{length, drop, getD, length-append}
 use lib.Seq.{drop-cons}
 use Rattle.proof_kit.proofs.Order.{le-or-lt}
 use Rattle.integers.specs.Near.{signed}
-use Rattle.ellipsoid.proofs.AcceptedSet.{both}
+use Rattle.integers.proofs.Greatest.{both}
 use Rattle.lines.specs.declared.numbers.Numeral.the-variants.{Number, Other}
 use Rattle.lines.specs.Numbers.{minus, isDigit, areDigits, valueFrom, unsignedOf, numberOf, digitsWithin, decimal, numberText}
 use Rattle.lines.specs.Theorems.{PrintedRead}

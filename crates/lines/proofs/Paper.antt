@@ -4,9 +4,10 @@ use mathlib.Core.Path.{_≡_, refl, ap, _∙_}
 use mathlib.Core.Bool.{false}
 use lib.Dec.{lit≤}
 use lib.IntN.{pos, negℤ}
-use Rattle.ellipsoid.specs.ParameterSet.{within, etrsLaea}
-use Rattle.projection.specs.ForwardSteps.{on-globe}
-use Rattle.projection.proofs.ForwardLaws.{forward-off-globe, forward-of-accepted}
+use Rattle.units.specs.Spans.{within}
+use Rattle.parameters.specs.ParameterSet.{etrsLaea}
+use Rattle.azimuthal_forward.specs.Answer.{on-globe}
+use Rattle.azimuthal_forward.proofs.ForwardLaws.{forward-off-globe, forward-of-accepted}
 use Rattle.projection_laws.proofs.Centre.{centre-plane, centre-position, opposite-refused}
 use Rattle.lines.specs.Numbers.{unsignedOf, numberOf, decimal, numberText}
 use Rattle.lines.specs.Lines.{planeText, positionText, answerText}

@@ -10,7 +10,8 @@ use Rattle.integers.proofs.Greatest.{greatest-here}
 use Rattle.floats.proofs.Marked.{degree-256th, degree-minus-256th, metre-8th}
 use Rattle.sine_table.specs.Table.{entry}
 use Rattle.sine_table.proofs.Laws.{entry-1, entry-5399}
-use Rattle.trig.specs.Sine.{right-angle, between, first-quarter, first-half, one-turn, sine, cosine}
+use Rattle.units.specs.Units.{right-angle}
+use Rattle.trig.specs.Sine.{between, first-quarter, first-half, one-turn, sine, cosine}
 use Rattle.trig.specs.Angle.{under}
 use Rattle.trig.proofs.Angles.{angle-none, angle-some, angle-edge}
 use Rattle.marked_cases.specs.Cases.{All, P}

@@ -12,17 +12,20 @@ use Rattle.integers.specs.Near.{near, nearest}
 use Rattle.integers.specs.Root.{root}
 use Rattle.integers.proofs.Rounding.{near-zero, near-whole}
 use Rattle.integers.proofs.Squares.{root-is}
-use Rattle.sine_table.specs.Table.{unit}
+use Rattle.units.specs.Units.{unit, U}
 use Rattle.trig.specs.Sine.{sine, cosine}
 use Rattle.trig.proofs.Interface.{sine-zero, sine-right, cosine-zero, cosine-right}
-use Rattle.ellipsoid.specs.declared.latitude.AuthalicSeries.{AuthalicSeries}
-use Rattle.ellipsoid.specs.declared.constants.Constants.{Constants}
-use Rattle.projection.specs.declared.forward.PlaneAnswer.the-variants.{Plane}
-use Rattle.ellipsoid.specs.ParameterSet.{within, same, polar, accepted-a, accepted-e2, accepted-lat0, accepted-lon0, accepted-false, firstRefusal, setRefusal}
-use Rattle.ellipsoid.specs.Latitude.{coefficients, terms, rounded, betaMas}
-use Rattle.ellipsoid.specs.Derived.{U, to-mas, e4, e6, W, J, k2, k4, k6, seriesOf, β0, S0, C0, «V», m, D, Rq, RD, RN, constantsOf}
-use Rattle.projection.specs.ForwardSteps.{H, b, c, u, v, w, G, dE, dN, nearness, near-enough, on-globe, forwardOf}
-use Rattle.projection.proofs.ForwardLaws.{forward-plane, forward-of-accepted}
+use Rattle.latitudes.specs.declared.AuthalicSeries.{AuthalicSeries}
+use Rattle.constants.specs.declared.Constants.{Constants}
+use Rattle.azimuthal_forward.specs.declared.PlaneAnswer.the-variants.{Plane}
+use Rattle.units.specs.Spans.{within, same}
+use Rattle.parameters.specs.ParameterSet.{polar, accepted-a, accepted-e2, accepted-lat0, accepted-lon0, accepted-false, firstRefusal, setRefusal}
+use Rattle.latitudes.specs.Latitude.{coefficients, terms, rounded}
+use Rattle.latitudes.proofs.AuthalicLaws.{betaMas}
+use Rattle.constants.specs.Derived.{to-mas, e4, e6, W, J, k2, k4, k6, seriesOf, β0, S0, C0, «V», m, D, Rq, RD, RN, constantsOf}
+use Rattle.azimuthal_forward.specs.Steps.{H, b, c, u, v, w, G, dE, dN, near-enough}
+use Rattle.azimuthal_forward.specs.Answer.{nearness, on-globe, forwardOf}
+use Rattle.azimuthal_forward.proofs.ForwardLaws.{forward-plane, forward-of-accepted}
 use Rattle.marked_cases.specs.Cases.{sphere}
 
 some : 0 < unit

@@ -5,14 +5,15 @@ use mathlib.Core.List.{List, [], _∷_}
 use lib.IntN.{ℤ, pos, negsuc}
 use lib.Ieee.{fin}
 use Rattle.integers.specs.Near.{near}
-use Rattle.floats.specs.Units.{degree, metre, wholeOf}
+use Rattle.units.specs.Units.{degree, metre}
+use Rattle.floats.specs.Conversion.{wholeOf}
 use Rattle.sine_table.specs.Table.{entry}
 use Rattle.trig.specs.Sine.{sine}
 use Rattle.trig.specs.Angle.{angle}
-use Rattle.ellipsoid.specs.declared.parameters.Parameters.{Parameters}
-use Rattle.projection.specs.declared.forward.PlaneAnswer.{PlaneAnswer}
-use Rattle.projection.specs.declared.forward.PlaneAnswer.the-variants.{Plane}
-use Rattle.projection.specs.ForwardSteps.{forwardOf}
+use Rattle.parameters.specs.declared.Parameters.{Parameters}
+use Rattle.azimuthal_forward.specs.declared.PlaneAnswer.{PlaneAnswer}
+use Rattle.azimuthal_forward.specs.declared.PlaneAnswer.the-variants.{Plane}
+use Rattle.azimuthal_forward.specs.Answer.{forwardOf}
 
 -- a number, or an answer of the forward steps, and what it is
 infix 40 _is_ _goes-to_

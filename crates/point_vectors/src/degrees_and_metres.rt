@@ -9,7 +9,7 @@ use crate::point_rows::refused;
 use crate::sets::etrs_laea;
 use crate::sets::no_set;
 use crate::sets::sphere;
-use ellipsoid::parameters::Parameters;
+use parameters::Parameters;
 use printing::line;
 
 // The names of the rows, counted from 0.

@@ -9,7 +9,7 @@ use crate::filled::NUMBER;
 use crate::filled::Numbers;
 use crate::filled::filled_marks;
 use crate::filled::numbers;
-use ellipsoid::parameters::Parameters;
+use parameters::Parameters;
 use points::lists::ListAnswer;
 use points::lists::forward_list;
 use points::lists::inverse_list;

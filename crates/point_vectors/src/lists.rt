@@ -4,7 +4,7 @@ use crate::list_rows::list_refused;
 use crate::list_rows::list_row;
 use crate::sets::etrs_laea;
 use crate::sets::no_set;
-use ellipsoid::parameters::Parameters;
+use parameters::Parameters;
 use printing::line;
 ghost use Prim.Native.Nat.{_≤_};
 

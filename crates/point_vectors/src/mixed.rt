@@ -6,7 +6,7 @@ use crate::filled::NUMBER;
 use crate::list_rows::count_row;
 use crate::list_rows::run;
 use crate::point_rows::compare;
-use ellipsoid::parameters::Parameters;
+use parameters::Parameters;
 use points::pairs::Marked;
 use printing::size;
 use printing::verdict;

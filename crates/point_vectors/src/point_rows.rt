@@ -2,7 +2,7 @@
 // Its name is printed before it.
 use crate::doubles::bits;
 use crate::doubles::show_both;
-use ellipsoid::parameters::Parameters;
+use parameters::Parameters;
 use points::pairs::GeodeticPair;
 use points::pairs::GeodeticPairAnswer;
 use points::pairs::Marked;

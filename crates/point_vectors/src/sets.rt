@@ -1,6 +1,6 @@
 // The sets that are run.
-use ellipsoid::latitude::Geodetic;
-use ellipsoid::parameters::Parameters;
+use latitudes::Geodetic;
+use parameters::Parameters;
 
 pub(crate) fn etrs_laea() -> Parameters {
     Parameters::etrs_laea()

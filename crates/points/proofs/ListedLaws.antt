@@ -8,10 +8,10 @@ use native.Mathlib.Omega.{arith}
 use lib.Dec.{eqb, leb}
 use lib.Ieee.{Float}
 use lib.ListN.{length}
-use Rattle.ellipsoid.specs.declared.parameters.Parameters.{Parameters}
-use Rattle.ellipsoid.specs.ParameterSet.{unless, setRefusal}
-use Rattle.projection.specs.Answers.{firstOf}
-use Rattle.ellipsoid.proofs.AcceptedSet.{both}
+use Rattle.parameters.specs.declared.Parameters.{Parameters}
+use Rattle.units.specs.Refusals.{unless, firstOf}
+use Rattle.parameters.specs.ParameterSet.{setRefusal}
+use Rattle.integers.proofs.Greatest.{both}
 use Rattle.points.specs.declared.pairs.Marked.{Marked}
 use Rattle.points.specs.declared.lists.ListAnswer.the-variants.{Count, Refused}
 use Rattle.points.specs.Lists.{firsts, seconds, marks, lengthRefusal, listRefusal, zeros, Listed}

@@ -4,17 +4,20 @@ use mathlib.Core.Bool.{Bool, true, false, cond}
 use Prim.Native.Nat.{ℕ, zero, suc}
 use lib.IntN.{pos}
 use lib.Ieee.{Float, div, ofInt}
-use Rattle.floats.specs.Units.{degree, metre, floatOf}
-use Rattle.ellipsoid.specs.declared.parameters.Parameters.{Parameters}
-use Rattle.projection.specs.declared.forward.PlaneAnswer.{PlaneAnswer}
-use Rattle.projection.specs.declared.forward.PlaneAnswer.the-variants.{Plane, Refused as PlaneRefused}
-use Rattle.projection.specs.declared.inverse.GeodeticAnswer.{GeodeticAnswer}
-use Rattle.projection.specs.declared.inverse.GeodeticAnswer.the-variants.{Position, Refused as GeodeticRefused}
-use Rattle.ellipsoid.specs.ParameterSet.{unless, setRefusal}
-use Rattle.projection.specs.ForwardSteps.{forwardOf}
-use Rattle.projection.specs.InverseSteps.{inverseOf}
-use Rattle.projection.specs.Answers.{Told, firstOf, plane-told, geodetic-told}
-use Rattle.projection.proofs.AnswerLaws.{forward-tells, inverse-tells}
+use Rattle.units.specs.Units.{degree, metre}
+use Rattle.floats.specs.Conversion.{floatOf}
+use Rattle.parameters.specs.declared.Parameters.{Parameters}
+use Rattle.azimuthal_forward.specs.declared.PlaneAnswer.{PlaneAnswer}
+use Rattle.azimuthal_forward.specs.declared.PlaneAnswer.the-variants.{Plane, Refused as PlaneRefused}
+use Rattle.azimuthal_inverse.specs.declared.GeodeticAnswer.{GeodeticAnswer}
+use Rattle.azimuthal_inverse.specs.declared.GeodeticAnswer.the-variants.{Position, Refused as GeodeticRefused}
+use Rattle.units.specs.Refusals.{unless, firstOf}
+use Rattle.parameters.specs.ParameterSet.{setRefusal}
+use Rattle.azimuthal_forward.specs.Answer.{forwardOf, plane-told}
+use Rattle.azimuthal_inverse.specs.Answer.{inverseOf, geodetic-told}
+use Rattle.units.specs.Answers.{Told}
+use Rattle.azimuthal_forward.proofs.AnswerLaws.{forward-tells}
+use Rattle.azimuthal_inverse.proofs.AnswerLaws.{inverse-tells}
 use Rattle.points.specs.declared.pairs.GeodeticPair.{GeodeticPair}
 use Rattle.points.specs.declared.pairs.PlanePair.{PlanePair}
 use Rattle.points.specs.declared.pairs.PlanePairAnswer.the-variants.{Refused}

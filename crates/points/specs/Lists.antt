@@ -6,9 +6,9 @@ use mathlib.Core.List.{List, [], _∷_, map}
 use lib.Dec.{eqb, leb}
 use lib.Ieee.{Float}
 use lib.ListN.{length}
-use Rattle.ellipsoid.specs.declared.parameters.Parameters.{Parameters}
-use Rattle.ellipsoid.specs.ParameterSet.{unless, setRefusal}
-use Rattle.projection.specs.Answers.{firstOf}
+use Rattle.parameters.specs.declared.Parameters.{Parameters}
+use Rattle.units.specs.Refusals.{unless, firstOf}
+use Rattle.parameters.specs.ParameterSet.{setRefusal}
 use Rattle.points.specs.declared.pairs.GeodeticPair.{GeodeticPair}
 use Rattle.points.specs.declared.pairs.PlanePair.{PlanePair}
 use Rattle.points.specs.declared.pairs.Marked.{Marked}

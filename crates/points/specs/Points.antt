@@ -3,17 +3,18 @@ use Prim.Native.Nat.{ℕ, zero, suc}
 use mathlib.Core.Bool.{Bool, _&&_, cond}
 use lib.IntN.{ℤ}
 use lib.Ieee.{Float}
-use Rattle.floats.specs.Units.{degree, metre, wholeOf, floatOf}
+use Rattle.units.specs.Units.{degree, metre}
+use Rattle.floats.specs.Conversion.{wholeOf, floatOf}
 use Rattle.floats.specs.Limits.{isFinite, within, latitudeLimit, longitudeLimit, planeLimit}
-use Rattle.ellipsoid.specs.declared.latitude.Geodetic.{Geodetic}
-use Rattle.ellipsoid.specs.declared.parameters.Parameters.{Parameters}
-use Rattle.projection.specs.declared.forward.PlaneAnswer.{PlaneAnswer}
-use Rattle.projection.specs.declared.forward.PlaneAnswer.the-variants.{Plane, Refused as PlaneRefused}
-use Rattle.projection.specs.declared.inverse.GeodeticAnswer.{GeodeticAnswer}
-use Rattle.projection.specs.declared.inverse.GeodeticAnswer.the-variants.{Position, Refused as GeodeticRefused}
-use Rattle.ellipsoid.specs.ParameterSet.{setRefusal}
-use Rattle.projection.specs.ForwardSteps.{forwardOf}
-use Rattle.projection.specs.InverseSteps.{inverseOf}
+use Rattle.latitudes.specs.declared.Geodetic.{Geodetic}
+use Rattle.parameters.specs.declared.Parameters.{Parameters}
+use Rattle.azimuthal_forward.specs.declared.PlaneAnswer.{PlaneAnswer}
+use Rattle.azimuthal_forward.specs.declared.PlaneAnswer.the-variants.{Plane, Refused as PlaneRefused}
+use Rattle.azimuthal_inverse.specs.declared.GeodeticAnswer.{GeodeticAnswer}
+use Rattle.azimuthal_inverse.specs.declared.GeodeticAnswer.the-variants.{Position, Refused as GeodeticRefused}
+use Rattle.parameters.specs.ParameterSet.{setRefusal}
+use Rattle.azimuthal_forward.specs.Answer.{forwardOf}
+use Rattle.azimuthal_inverse.specs.Answer.{inverseOf}
 use Rattle.points.specs.declared.pairs.GeodeticPair.{GeodeticPair}
 use Rattle.points.specs.declared.pairs.PlanePair.{PlanePair}
 use Rattle.points.specs.declared.pairs.PlanePairAnswer.{PlanePairAnswer}

@@ -3,10 +3,14 @@ use Prim.Native.Nat.{ℕ, zero, suc}
 use mathlib.Core.Bool.{false}
 use lib.IntN.{pos}
 use lib.Ieee.{Float, fin}
-use Rattle.floats.specs.Units.{degree, metre, floatOf}
-use Rattle.ellipsoid.specs.declared.parameters.Parameters.{Parameters}
-use Rattle.ellipsoid.specs.ParameterSet.{unless, setRefusal}
-use Rattle.projection.specs.Answers.{Told, firstOf, forwardTold, inverseTold}
+use Rattle.units.specs.Units.{degree, metre}
+use Rattle.floats.specs.Conversion.{floatOf}
+use Rattle.parameters.specs.declared.Parameters.{Parameters}
+use Rattle.units.specs.Refusals.{unless, firstOf}
+use Rattle.parameters.specs.ParameterSet.{setRefusal}
+use Rattle.units.specs.Answers.{Told}
+use Rattle.azimuthal_forward.specs.Answer.{forwardTold}
+use Rattle.azimuthal_inverse.specs.Answer.{inverseTold}
 use Rattle.points.specs.declared.pairs.GeodeticPair.{GeodeticPair}
 use Rattle.points.specs.declared.pairs.PlanePair.{PlanePair}
 use Rattle.points.specs.declared.pairs.PlanePairAnswer.{PlanePairAnswer}

@@ -5,8 +5,8 @@ use floats::is_latitude;
 use floats::is_longitude;
 use floats::is_plane;
 use floats::mas_to_degrees;
-use projection::forward::PlaneAnswer;
-use projection::inverse::GeodeticAnswer;
+use azimuthal_forward::PlaneAnswer;
+use azimuthal_inverse::GeodeticAnswer;
 ghost use mathlib.Core.Path.{_≡_};
 ghost use Rattle.points.specs.Points.{areFinite, onGlobe, onPlane, inMetres, inDegrees};
 

@@ -6,16 +6,16 @@ use Prim.Native.Nat.{ℕ, zero, suc, _≤_}
 use lib.IntN.{ℤ, pos, natAbs}
 use Rattle.proof_kit.proofs.Order.{<ℤ-≤ℤ, abs-between}
 use Rattle.floats.proofs.Coordinates.{latitude, longitude, plane, float-finite, float-back}
-use Rattle.ellipsoid.specs.declared.latitude.Geodetic.{Geodetic}
-use Rattle.ellipsoid.specs.declared.parameters.Parameters.{Parameters}
-use Rattle.projection.specs.declared.forward.PlaneAnswer.{PlaneAnswer}
-use Rattle.projection.specs.declared.forward.PlaneAnswer.the-variants.{Plane, Refused as PlaneRefused}
-use Rattle.projection.specs.declared.inverse.GeodeticAnswer.{GeodeticAnswer}
-use Rattle.projection.specs.declared.inverse.GeodeticAnswer.the-variants.{Position, Refused as GeodeticRefused}
-use Rattle.ellipsoid.specs.ParameterSet.{setRefusal}
-use Rattle.projection.specs.ForwardSteps.{forwardOf}
-use Rattle.projection.specs.InverseSteps.{inverseOf}
-use Rattle.projection.proofs.InverseLaws.{plane-sizes}
+use Rattle.latitudes.specs.declared.Geodetic.{Geodetic}
+use Rattle.parameters.specs.declared.Parameters.{Parameters}
+use Rattle.azimuthal_forward.specs.declared.PlaneAnswer.{PlaneAnswer}
+use Rattle.azimuthal_forward.specs.declared.PlaneAnswer.the-variants.{Plane, Refused as PlaneRefused}
+use Rattle.azimuthal_inverse.specs.declared.GeodeticAnswer.{GeodeticAnswer}
+use Rattle.azimuthal_inverse.specs.declared.GeodeticAnswer.the-variants.{Position, Refused as GeodeticRefused}
+use Rattle.parameters.specs.ParameterSet.{setRefusal}
+use Rattle.azimuthal_forward.specs.Answer.{forwardOf}
+use Rattle.azimuthal_inverse.specs.Answer.{inverseOf}
+use Rattle.units.proofs.Spans.{plane-sizes}
 use Rattle.projection_laws.proofs.Ranges.{position-in-range}
 use Rattle.round_trip.proofs.Limits.{forward-on-plane}
 use Rattle.points.specs.declared.pairs.GeodeticPair.{GeodeticPair}

@@ -5,9 +5,9 @@ use Prim.Native.Nat.{ℕ, zero, suc, _<_}
 use native.Mathlib.Omega.{arith}
 use lib.Ieee.{Float, nan}
 use lib.ListN.{length, getD}
-use Rattle.ellipsoid.specs.declared.parameters.Parameters.{Parameters}
-use Rattle.ellipsoid.specs.ParameterSet.{setRefusal}
-use Rattle.projection.specs.Answers.{firstOf}
+use Rattle.parameters.specs.declared.Parameters.{Parameters}
+use Rattle.parameters.specs.ParameterSet.{setRefusal}
+use Rattle.units.specs.Refusals.{firstOf}
 use Rattle.points.specs.declared.pairs.Marked.{Marked}
 use Rattle.points.specs.declared.lists.ListAnswer.{ListAnswer}
 use Rattle.points.specs.Told.{plane-marked, geodetic-marked}

@@ -7,13 +7,13 @@ use native.Mathlib.Omega.{arith}
 use lib.IntN.{pos}
 use lib.Ieee.{Float, nan}
 use lib.ListN.{length, getD}
-use Rattle.ellipsoid.specs.declared.parameters.Parameters.{Parameters}
-use Rattle.projection.specs.declared.forward.PlaneAnswer.{PlaneAnswer}
-use Rattle.projection.specs.declared.forward.PlaneAnswer.the-variants.{Plane, Refused as PlaneRefused}
-use Rattle.projection.specs.declared.inverse.GeodeticAnswer.{GeodeticAnswer}
-use Rattle.ellipsoid.specs.ParameterSet.{setRefusal}
-use Rattle.projection.specs.ForwardSteps.{forwardOf}
-use Rattle.projection.specs.InverseSteps.{inverseOf}
+use Rattle.parameters.specs.declared.Parameters.{Parameters}
+use Rattle.azimuthal_forward.specs.declared.PlaneAnswer.{PlaneAnswer}
+use Rattle.azimuthal_forward.specs.declared.PlaneAnswer.the-variants.{Plane, Refused as PlaneRefused}
+use Rattle.azimuthal_inverse.specs.declared.GeodeticAnswer.{GeodeticAnswer}
+use Rattle.parameters.specs.ParameterSet.{setRefusal}
+use Rattle.azimuthal_forward.specs.Answer.{forwardOf}
+use Rattle.azimuthal_inverse.specs.Answer.{inverseOf}
 use Rattle.projection_laws.specs.Theorems.{OneOfThree}
 use Rattle.projection_laws.proofs.Refusals.{forward-numbers, not-zero}
 use Rattle.round_trip.specs.RoundTrip.{latitude-bound, gap-bound, RoundTripAt, CloseTo}

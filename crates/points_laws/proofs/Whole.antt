@@ -6,11 +6,11 @@ use native.Mathlib.Nat.{le-trans}
 use lib.Dec.{lit≤}
 use lib.IntN.{ℤ}
 use Rattle.floats.proofs.Coordinates.{latitude, longitude, plane, float-finite, float-within, float-back}
-use Rattle.ellipsoid.specs.declared.parameters.Parameters.{Parameters}
-use Rattle.ellipsoid.specs.ParameterSet.{setRefusal}
-use Rattle.projection.specs.ForwardSteps.{forwardOf}
-use Rattle.projection.specs.InverseSteps.{inverseOf}
-use Rattle.ellipsoid.proofs.AcceptedSet.{accepted, lat0-size}
+use Rattle.parameters.specs.declared.Parameters.{Parameters}
+use Rattle.parameters.specs.ParameterSet.{setRefusal}
+use Rattle.azimuthal_forward.specs.Answer.{forwardOf}
+use Rattle.azimuthal_inverse.specs.Answer.{inverseOf}
+use Rattle.parameters.proofs.AcceptedSet.{accepted, lat0-size}
 use Rattle.projection_laws.proofs.Centre.{centre-forward as whole-centre-forward, centre-inverse as whole-centre-inverse}
 use Rattle.projection_laws.proofs.Refusals.{forward-decided, inverse-decided}
 use Rattle.points.specs.declared.pairs.GeodeticPair.{GeodeticPair}

@@ -7,14 +7,15 @@ use lib.Dec.{lit≤}
 use lib.IntN.{pos, negℤ}
 use lib.Ieee.{nan, lt, neg}
 use Rattle.floats.specs.Limits.{isFinite, beyond, within}
-use Rattle.projection.specs.declared.forward.PlaneAnswer.{PlaneAnswer}
-use Rattle.projection.specs.declared.forward.PlaneAnswer.the-variants.{Plane, Refused}
-use Rattle.projection.specs.declared.inverse.GeodeticAnswer.{GeodeticAnswer}
-use Rattle.projection.specs.declared.inverse.GeodeticAnswer.the-variants.{Position, Refused as NotFound}
-use Rattle.ellipsoid.specs.ParameterSet.{within as within-limits, same, polar, accepted-a, accepted-e2, accepted-lat0, accepted-lon0, accepted-false, firstRefusal, setRefusal, etrsLaea}
-use Rattle.projection.specs.ForwardSteps.{forwardOf}
-use Rattle.projection.specs.InverseSteps.{inverseOf}
-use Rattle.projection.specs.Answers.{Told, plane-told, geodetic-told}
+use Rattle.azimuthal_forward.specs.declared.PlaneAnswer.{PlaneAnswer}
+use Rattle.azimuthal_forward.specs.declared.PlaneAnswer.the-variants.{Plane, Refused}
+use Rattle.azimuthal_inverse.specs.declared.GeodeticAnswer.{GeodeticAnswer}
+use Rattle.azimuthal_inverse.specs.declared.GeodeticAnswer.the-variants.{Position, Refused as NotFound}
+use Rattle.units.specs.Spans.{within as within-limits, same}
+use Rattle.parameters.specs.ParameterSet.{polar, accepted-a, accepted-e2, accepted-lat0, accepted-lon0, accepted-false, firstRefusal, setRefusal, etrsLaea}
+use Rattle.azimuthal_forward.specs.Answer.{forwardOf, plane-told}
+use Rattle.azimuthal_inverse.specs.Answer.{inverseOf, geodetic-told}
+use Rattle.units.specs.Answers.{Told}
 use Rattle.projection_laws.specs.Theorems.{sizeless}
 use Rattle.projection_laws.proofs.Witnesses.{forward-witnesses as whole-forward, inverse-witnesses as whole-inverse}
 use Rattle.points.specs.declared.pairs.PlanePairAnswer.the-variants.{Refused as PairRefused}

@@ -6,9 +6,9 @@ use lib.IntN.{pos, natAbs}
 use lib.Signed.{_≤ℤ_}
 use lib.Ieee.{Float, nan}
 use lib.ListN.{length, getD}
-use Rattle.ellipsoid.specs.declared.parameters.Parameters.{Parameters}
-use Rattle.projection.specs.declared.inverse.GeodeticAnswer.the-variants.{Position}
-use Rattle.projection.specs.ForwardSteps.{nearness}
+use Rattle.parameters.specs.declared.Parameters.{Parameters}
+use Rattle.azimuthal_inverse.specs.declared.GeodeticAnswer.the-variants.{Position}
+use Rattle.azimuthal_forward.specs.Answer.{nearness}
 use Rattle.round_trip.specs.RoundTrip.{farthest-latitude, least-nearness, latitude-bound, gap-bound, CloseTo}
 use Rattle.points.specs.declared.pairs.GeodeticPair.{GeodeticPair}
 use Rattle.points.specs.declared.pairs.PlanePair.{PlanePair}

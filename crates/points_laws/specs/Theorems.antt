@@ -7,12 +7,12 @@ use lib.IntN.{ℤ, pos, negℤ, natAbs}
 use lib.Ieee.{Float, nan, fin}
 use lib.ListN.{length, getD, replicate}
 use Rattle.floats.specs.Limits.{isFinite}
-use Rattle.ellipsoid.specs.declared.parameters.Parameters.{Parameters}
-use Rattle.projection.specs.declared.forward.PlaneAnswer.the-variants.{Plane}
-use Rattle.projection.specs.declared.inverse.GeodeticAnswer.the-variants.{Position}
-use Rattle.ellipsoid.specs.ParameterSet.{setRefusal, etrsLaea}
-use Rattle.projection.specs.ForwardSteps.{forwardOf}
-use Rattle.projection.specs.InverseSteps.{inverseOf}
+use Rattle.parameters.specs.declared.Parameters.{Parameters}
+use Rattle.azimuthal_forward.specs.declared.PlaneAnswer.the-variants.{Plane}
+use Rattle.azimuthal_inverse.specs.declared.GeodeticAnswer.the-variants.{Position}
+use Rattle.parameters.specs.ParameterSet.{setRefusal, etrsLaea}
+use Rattle.azimuthal_forward.specs.Answer.{forwardOf}
+use Rattle.azimuthal_inverse.specs.Answer.{inverseOf}
 use Rattle.projection_laws.specs.Theorems.{sizeless}
 use Rattle.points.specs.declared.pairs.GeodeticPair.{GeodeticPair}
 use Rattle.points.specs.declared.pairs.PlanePair.{PlanePair}

@@ -1,11 +1,11 @@
 -- The laws of β that the projection's proofs rest on, for the coefficients of e2.
 -- Assumes nothing.
 use lib.IntN.{pos}
-use Rattle.ellipsoid.specs.ParameterSet.{accepted-e2}
-use Rattle.ellipsoid.specs.Derived.{seriesOf}
-use Rattle.ellipsoid.proofs.AcceptedSet.{within-bounds}
-use Rattle.ellipsoid.proofs.AuthalicLaws.{beta-odd as odd, beta-≤, beta-north-pole, beta-south-pole}
-use Rattle.ellipsoid.proofs.SeriesLaws.{series-small}
+use Rattle.parameters.specs.ParameterSet.{accepted-e2}
+use Rattle.constants.specs.Derived.{seriesOf}
+use Rattle.units.proofs.Spans.{within-bounds}
+use Rattle.latitudes.proofs.AuthalicLaws.{beta-odd as odd, beta-≤, beta-north-pole, beta-south-pole}
+use Rattle.constants.proofs.SeriesLaws.{series-small}
 use Rattle.proof_kit.proofs.Order.{order, abs-between, ≤ℤ-trans}
 use Rattle.projection_laws.specs.Theorems.{BetaOdd, BetaNeverFalls, BetaPoles}
 

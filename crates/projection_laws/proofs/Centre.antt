@@ -16,24 +16,25 @@ use Rattle.proof_kit.proofs.Size.{abs-neg}
 use Rattle.proof_kit.proofs.Order.{order}
 use Rattle.integers.specs.Near.{near}
 use Rattle.integers.proofs.Rounding.{near-zero, near-whole, near-mono, near-odd}
-use Rattle.sine_table.specs.Table.{unit}
-use Rattle.trig.specs.Sine.{right-angle, half-turn, sine, cosine}
+use Rattle.units.specs.Units.{unit, right-angle, half-turn, U}
+use Rattle.trig.specs.Sine.{sine, cosine}
 use Rattle.trig.proofs.Interface.{sine-zero, sine-right, sine-odd, cosine-zero, cosine-right, cosine-even, cosine-quarter-turn, near-circle}
-use Rattle.ellipsoid.specs.declared.latitude.Geodetic.{Geodetic}
-use Rattle.ellipsoid.specs.declared.parameters.Parameters.{Parameters}
-use Rattle.ellipsoid.specs.declared.constants.Constants.{Constants}
-use Rattle.projection.specs.declared.forward.PlaneAnswer.the-variants.{Plane, Refused}
-use Rattle.projection.specs.declared.inverse.GeodeticAnswer.the-variants.{Position}
-use Rattle.ellipsoid.specs.ParameterSet.{within, same, polar, setRefusal}
-use Rattle.ellipsoid.specs.Latitude.{betaMas}
-use Rattle.ellipsoid.specs.Derived.{U, seriesOf, β0, S0, C0, constantsOf}
-use Rattle.projection.specs.ForwardSteps.{H, b, c, u, v, w, G, dE, dN, nearness, forwardOf}
-use Rattle.projection.specs.InverseSteps.{at-origin, inverseOf}
-use Rattle.ellipsoid.proofs.AcceptedSet.{accepted, lat0-size, polar-cases}
-use Rattle.ellipsoid.proofs.AuthalicLaws.{beta-odd, beta-north-pole, beta-south-pole}
-use Rattle.projection.proofs.ForwardLaws.{H-least, forward-too-far, forward-plane, forward-of-accepted}
-use Rattle.projection.proofs.InverseLaws.{unprojected-origin, inverse-on-plane, inverse-of-accepted}
-use Rattle.projection.specs.Answers.{plane-told, geodetic-told}
+use Rattle.latitudes.specs.declared.Geodetic.{Geodetic}
+use Rattle.parameters.specs.declared.Parameters.{Parameters}
+use Rattle.constants.specs.declared.Constants.{Constants}
+use Rattle.azimuthal_forward.specs.declared.PlaneAnswer.the-variants.{Plane, Refused}
+use Rattle.azimuthal_inverse.specs.declared.GeodeticAnswer.the-variants.{Position}
+use Rattle.units.specs.Spans.{within, same}
+use Rattle.parameters.specs.ParameterSet.{polar, setRefusal}
+use Rattle.latitudes.proofs.AuthalicLaws.{betaMas, beta-odd, beta-north-pole, beta-south-pole}
+use Rattle.constants.specs.Derived.{seriesOf, β0, S0, C0, constantsOf}
+use Rattle.azimuthal_forward.specs.Steps.{H, b, c, u, v, w, G, dE, dN}
+use Rattle.azimuthal_forward.specs.Answer.{nearness, forwardOf, plane-told}
+use Rattle.azimuthal_inverse.specs.Steps.{at-origin}
+use Rattle.azimuthal_inverse.specs.Answer.{inverseOf, geodetic-told}
+use Rattle.parameters.proofs.AcceptedSet.{accepted, lat0-size, polar-cases}
+use Rattle.azimuthal_forward.proofs.ForwardLaws.{H-least, forward-too-far, forward-plane, forward-of-accepted}
+use Rattle.azimuthal_inverse.proofs.InverseLaws.{unprojected-origin, inverse-on-plane, inverse-of-accepted}
 use Rattle.projection_laws.specs.Theorems.{CentreForward, CentreInverse, PoleForward, OppositeForward}
 use Rattle.projection_laws.proofs.Tests.{on-globe-by, on-plane-by, near-enough-by, not-near-enough}
 

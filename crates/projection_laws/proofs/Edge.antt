@@ -14,18 +14,19 @@ use Rattle.proof_kit.proofs.Size.{abs-mul-le, abs-add-le}
 use Rattle.proof_kit.proofs.Order.{order, lt-leZ}
 use Rattle.integers.specs.Near.{near}
 use Rattle.integers.proofs.Rounding.{near-zero, near-whole}
-use Rattle.sine_table.specs.Table.{unit}
-use Rattle.ellipsoid.specs.declared.parameters.Parameters.{Parameters}
-use Rattle.ellipsoid.specs.declared.constants.Constants.{Constants}
-use Rattle.projection.specs.declared.inverse.GeodeticAnswer.the-variants.{Refused}
-use Rattle.ellipsoid.specs.ParameterSet.{within, same, setRefusal}
-use Rattle.ellipsoid.specs.Derived.{U, RD, constantsOf}
-use Rattle.projection.specs.ForwardSteps.{near-enough}
-use Rattle.projection.specs.InverseSteps.{G, K, X, Y, dropOf, at-origin, on-map, unprojected, inverseOf}
-use Rattle.ellipsoid.proofs.AcceptedSet.{accepted}
-use Rattle.projection.proofs.ConstantsLaws.{Sound, sound}
-use Rattle.projection.proofs.InverseLaws.{unprojected-too-far, inverse-on-plane, inverse-of-accepted}
-use Rattle.projection.specs.Answers.{geodetic-told}
+use Rattle.units.specs.Units.{unit, U}
+use Rattle.parameters.specs.declared.Parameters.{Parameters}
+use Rattle.constants.specs.declared.Constants.{Constants}
+use Rattle.azimuthal_inverse.specs.declared.GeodeticAnswer.the-variants.{Refused}
+use Rattle.units.specs.Spans.{within, same}
+use Rattle.parameters.specs.ParameterSet.{setRefusal}
+use Rattle.constants.specs.Derived.{RD, constantsOf}
+use Rattle.azimuthal_forward.specs.Steps.{near-enough}
+use Rattle.azimuthal_inverse.specs.Steps.{G, K, X, Y, versineOf, at-origin, on-map, unprojected}
+use Rattle.azimuthal_inverse.specs.Answer.{inverseOf, geodetic-told}
+use Rattle.parameters.proofs.AcceptedSet.{accepted}
+use Rattle.constants.proofs.ConstantsLaws.{Sound, sound}
+use Rattle.azimuthal_inverse.proofs.InverseLaws.{unprojected-too-far, inverse-on-plane, inverse-of-accepted}
 use Rattle.projection_laws.specs.Theorems.{EdgeInverse}
 use Rattle.projection_laws.proofs.Tests.{first-fails, second-fails, size-within, on-plane-by}
 
@@ -60,7 +61,7 @@ module _ (k : Constants) (ok : Sound k) where
   edge-Y = near-zero (natAbs (k .rn)) some-rn
 
   edge-K : K k (pos 2 *ℤ k .rd) (pos 0) ≡ pos 2 *ℤ U
-  unfolding K dropOf
+  unfolding K versineOf
   edge-K =
       ap₂ (λ (x y : ℤ). near (x *ℤ x +ℤ y *ℤ y) (2 * unit)) edge-X edge-Y ∙ near-whole (pos 2 *ℤ U) (2 * unit) (lit< tt)
 

@@ -11,25 +11,29 @@ use Rattle.proof_kit.proofs.Ring.{ring, quote}
 use Rattle.proof_kit.proofs.Size.{abs-add-le}
 use Rattle.proof_kit.proofs.Order.{order, abs-upper}
 use Rattle.integers.proofs.Greatest.{greatest-le}
-use Rattle.trig.specs.Sine.{right-angle, half-turn, full-turn, sine, cosine}
+use Rattle.units.specs.Units.{right-angle, half-turn, full-turn}
+use Rattle.trig.specs.Sine.{sine, cosine}
 use Rattle.trig.proofs.Interface.{sine-full-turn, sine-quarter-turn}
-use Rattle.ellipsoid.specs.declared.latitude.Geodetic.{Geodetic}
-use Rattle.ellipsoid.specs.declared.latitude.Authalic.{Authalic}
-use Rattle.ellipsoid.specs.declared.latitude.AuthalicSeries.{AuthalicSeries}
-use Rattle.ellipsoid.specs.declared.parameters.Parameters.{Parameters}
-use Rattle.ellipsoid.specs.declared.constants.Constants.{Constants}
-use Rattle.projection.specs.declared.inverse.SpherePoint.{SpherePoint}
-use Rattle.projection.specs.declared.inverse.GeodeticAnswer.{GeodeticAnswer}
-use Rattle.projection.specs.declared.inverse.GeodeticAnswer.the-variants.{Position, Refused as NotFound}
-use Rattle.ellipsoid.specs.ParameterSet.{within, setRefusal}
-use Rattle.ellipsoid.specs.Latitude.{not-above, geodetic}
-use Rattle.ellipsoid.specs.Derived.{constantsOf}
-use Rattle.projection.specs.ForwardSteps.{b, c, u, v, w, G, dE, dN, nearness, near-enough, on-globe, forwardPoint, forwardOf}
-use Rattle.projection.specs.InverseSteps.{latitudeOf, longitudeOf, positionOf, at-origin, on-map, on-plane, K, found, unprojected, inversePoint, inverseOf, pick, after, G as inverseG}
-use Rattle.ellipsoid.proofs.AcceptedSet.{Accepted, accepted, lat0-size}
-use Rattle.ellipsoid.proofs.GeodeticLaws.{from-south-pole-size}
-use Rattle.projection.proofs.AngleLaws.{longitude-size, wrapped-range}
-use Rattle.projection.specs.Answers.{geodetic-told}
+use Rattle.latitudes.specs.declared.Geodetic.{Geodetic}
+use Rattle.latitudes.specs.declared.Authalic.{Authalic}
+use Rattle.latitudes.specs.declared.AuthalicSeries.{AuthalicSeries}
+use Rattle.parameters.specs.declared.Parameters.{Parameters}
+use Rattle.constants.specs.declared.Constants.{Constants}
+use Rattle.azimuthal_inverse.specs.declared.SpherePoint.{SpherePoint}
+use Rattle.azimuthal_inverse.specs.declared.GeodeticAnswer.{GeodeticAnswer}
+use Rattle.azimuthal_inverse.specs.declared.GeodeticAnswer.the-variants.{Position, Refused as NotFound}
+use Rattle.units.specs.Spans.{within, on-plane}
+use Rattle.parameters.specs.ParameterSet.{setRefusal}
+use Rattle.latitudes.specs.Latitude.{not-above, geodetic}
+use Rattle.constants.specs.Derived.{constantsOf}
+use Rattle.azimuthal_forward.specs.Steps.{b, c, u, v, w, G, dE, dN, near-enough, forwardPoint}
+use Rattle.azimuthal_forward.specs.Answer.{nearness, on-globe, forwardOf}
+use Rattle.azimuthal_inverse.specs.Steps.{latitudeOf, longitudeOf, positionOf, at-origin, on-map, K, found, unprojected, inversePoint, pick, after, G as inverseG}
+use Rattle.azimuthal_inverse.specs.Answer.{inverseOf, geodetic-told}
+use Rattle.parameters.proofs.AcceptedSet.{Accepted, accepted, lat0-size}
+use Rattle.latitudes.proofs.GeodeticLaws.{from-south-pole-size}
+use Rattle.azimuthal_inverse.proofs.AngleLaws.{longitude-size}
+use Rattle.units.proofs.Spans.{wrapped-range}
 use Rattle.projection_laws.specs.Theorems.{InverseRange, HalfTurnAlike}
 
 -- ---- the inverse

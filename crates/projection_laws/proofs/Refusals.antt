@@ -7,17 +7,21 @@ use Prim.Native.Nat.{ℕ, zero, suc, _≤_, zero-le}
 use native.Mathlib.Nat.{le-refl}
 use native.Mathlib.Omega.{arith}
 use lib.IntN.{ℤ, _-ℤ_}
-use Rattle.ellipsoid.specs.declared.latitude.Geodetic.{Geodetic}
-use Rattle.ellipsoid.specs.declared.parameters.Parameters.{Parameters}
-use Rattle.projection.specs.declared.forward.PlaneAnswer.{PlaneAnswer}
-use Rattle.projection.specs.declared.forward.PlaneAnswer.the-variants.{Plane, Refused}
-use Rattle.projection.specs.declared.inverse.GeodeticAnswer.{GeodeticAnswer}
-use Rattle.projection.specs.declared.inverse.GeodeticAnswer.the-variants.{Position, Refused as NotFound}
-use Rattle.ellipsoid.specs.ParameterSet.{unless, accepted-a, accepted-e2, accepted-lat0, accepted-lon0, accepted-false, firstRefusal, setRefusal}
-use Rattle.ellipsoid.specs.Derived.{constantsOf}
-use Rattle.projection.specs.ForwardSteps.{near-enough, nearness, on-globe, forwardPoint, forwardOf, pick, after}
-use Rattle.projection.specs.InverseSteps.{G, K, at-origin, on-map, on-plane, positionOf, unprojected, inversePoint, inverseOf, pick as pick-geodetic, after as after-geodetic}
-use Rattle.projection.specs.Answers.{Told, accepted, plane-told, geodetic-told}
+use Rattle.latitudes.specs.declared.Geodetic.{Geodetic}
+use Rattle.parameters.specs.declared.Parameters.{Parameters}
+use Rattle.azimuthal_forward.specs.declared.PlaneAnswer.{PlaneAnswer}
+use Rattle.azimuthal_forward.specs.declared.PlaneAnswer.the-variants.{Plane, Refused}
+use Rattle.azimuthal_inverse.specs.declared.GeodeticAnswer.{GeodeticAnswer}
+use Rattle.azimuthal_inverse.specs.declared.GeodeticAnswer.the-variants.{Position, Refused as NotFound}
+use Rattle.units.specs.Refusals.{unless}
+use Rattle.parameters.specs.ParameterSet.{accepted-a, accepted-e2, accepted-lat0, accepted-lon0, accepted-false, firstRefusal, setRefusal}
+use Rattle.constants.specs.Derived.{constantsOf}
+use Rattle.azimuthal_forward.specs.Steps.{near-enough, forwardPoint, pick, after}
+use Rattle.azimuthal_forward.specs.Answer.{nearness, on-globe, forwardOf, plane-told}
+use Rattle.azimuthal_inverse.specs.Steps.{G, K, at-origin, on-map, positionOf, unprojected, inversePoint, pick as pick-geodetic, after as after-geodetic}
+use Rattle.azimuthal_inverse.specs.Answer.{inverseOf, geodetic-told}
+use Rattle.units.specs.Spans.{on-plane}
+use Rattle.units.specs.Answers.{Told, accepted}
 use Rattle.projection_laws.specs.Theorems.{OneOfThree, ForwardNumbers, InverseNumbers, ForwardDecided, InverseDecided}
 
 -- ---- a set's own refusal is 0 or 1

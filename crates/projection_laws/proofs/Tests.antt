@@ -6,11 +6,11 @@ use Prim.Native.Nat.{ℕ, _≤_}
 use lib.IntN.{ℤ, pos, negℤ, natAbs}
 use lib.Signed.{_≤ℤ_, _<ℤ_}
 use Rattle.proof_kit.proofs.Order.{abs-lower, abs-upper, le-leZ, lt-leZ}
-use Rattle.trig.specs.Sine.{right-angle, half-turn}
-use Rattle.ellipsoid.specs.declared.latitude.Geodetic.{Geodetic}
-use Rattle.ellipsoid.specs.ParameterSet.{within}
-use Rattle.projection.specs.ForwardSteps.{near-enough, on-globe}
-use Rattle.projection.specs.InverseSteps.{on-plane}
+use Rattle.units.specs.Units.{right-angle, half-turn}
+use Rattle.latitudes.specs.declared.Geodetic.{Geodetic}
+use Rattle.units.specs.Spans.{within, on-plane}
+use Rattle.azimuthal_forward.specs.Steps.{near-enough}
+use Rattle.azimuthal_forward.specs.Answer.{on-globe}
 
 -- two tests, of which one fails
 pub second-fails : (a : Bool) {b : Bool} → b ≡ false → (a && b) ≡ false

@@ -9,15 +9,16 @@ use lib.Dec.{lit≤}
 use lib.IntN.{ℤ, pos, negℤ, natAbs, _*ℤ_}
 use lib.Signed.{_<ℤ_, leZ}
 use Rattle.proof_kit.proofs.Order.{order, lt-leZ}
-use Rattle.ellipsoid.specs.ParameterSet.{within, same, polar, accepted-a, accepted-e2, accepted-lat0, accepted-lon0, accepted-false, firstRefusal, setRefusal, etrsLaea}
-use Rattle.ellipsoid.specs.Derived.{constantsOf}
-use Rattle.projection.specs.ForwardSteps.{on-globe}
-use Rattle.projection.specs.InverseSteps.{at-origin, on-map, on-plane}
-use Rattle.ellipsoid.proofs.AcceptedSet.{Between}
-use Rattle.projection.proofs.ConstantsLaws.{sound}
-use Rattle.projection.proofs.ForwardLaws.{forward-off-globe, forward-of-accepted, forward-of-refused}
-use Rattle.projection.proofs.InverseLaws.{unprojected-off-map, inverse-off-plane, inverse-on-plane, inverse-of-accepted, inverse-of-refused}
-use Rattle.projection.specs.Answers.{plane-told, geodetic-told}
+use Rattle.units.specs.Spans.{within, same, on-plane}
+use Rattle.parameters.specs.ParameterSet.{polar, accepted-a, accepted-e2, accepted-lat0, accepted-lon0, accepted-false, firstRefusal, setRefusal, etrsLaea}
+use Rattle.constants.specs.Derived.{constantsOf}
+use Rattle.azimuthal_forward.specs.Answer.{on-globe, plane-told}
+use Rattle.azimuthal_inverse.specs.Steps.{at-origin, on-map}
+use Rattle.units.proofs.Spans.{Between}
+use Rattle.constants.proofs.ConstantsLaws.{sound}
+use Rattle.azimuthal_forward.proofs.ForwardLaws.{forward-off-globe, forward-of-accepted, forward-of-refused}
+use Rattle.azimuthal_inverse.proofs.InverseLaws.{unprojected-off-map, inverse-off-plane, inverse-on-plane, inverse-of-accepted, inverse-of-refused}
+use Rattle.azimuthal_inverse.specs.Answer.{geodetic-told}
 use Rattle.projection_laws.specs.Theorems.{sizeless, ForwardWitnesses, InverseWitnesses}
 use Rattle.projection_laws.proofs.Centre.{centre-forward, centre-inverse, opposite-forward}
 use Rattle.projection_laws.proofs.Tests.{first-fails, second-fails, on-plane-by}

@@ -5,16 +5,17 @@ use mathlib.Core.Bool.{true}
 use mathlib.Core.Logic.{_⊎_}
 use lib.IntN.{ℤ, pos, negℤ, natAbs, _+ℤ_, _-ℤ_, _*ℤ_}
 use lib.Signed.{_≤ℤ_, _<ℤ_}
-use Rattle.ellipsoid.specs.declared.latitude.Geodetic.{Geodetic}
-use Rattle.ellipsoid.specs.declared.parameters.Parameters.{Parameters}
-use Rattle.projection.specs.declared.forward.PlaneAnswer.the-variants.{Plane, Refused}
-use Rattle.projection.specs.declared.inverse.GeodeticAnswer.the-variants.{Position, Refused as NotFound}
-use Rattle.ellipsoid.specs.ParameterSet.{polar, accepted-e2, setRefusal, etrsLaea}
-use Rattle.ellipsoid.specs.Latitude.{betaMas}
-use Rattle.ellipsoid.specs.Derived.{seriesOf, RD, constantsOf}
-use Rattle.projection.specs.ForwardSteps.{forwardOf}
-use Rattle.projection.specs.InverseSteps.{on-map, inverseOf}
-use Rattle.projection.specs.Answers.{Told, accepted, refused, plane-told, geodetic-told}
+use Rattle.latitudes.specs.declared.Geodetic.{Geodetic}
+use Rattle.parameters.specs.declared.Parameters.{Parameters}
+use Rattle.azimuthal_forward.specs.declared.PlaneAnswer.the-variants.{Plane, Refused}
+use Rattle.azimuthal_inverse.specs.declared.GeodeticAnswer.the-variants.{Position, Refused as NotFound}
+use Rattle.parameters.specs.ParameterSet.{polar, accepted-e2, setRefusal, etrsLaea}
+use Rattle.latitudes.proofs.AuthalicLaws.{betaMas}
+use Rattle.constants.specs.Derived.{seriesOf, RD, constantsOf}
+use Rattle.azimuthal_forward.specs.Answer.{forwardOf, plane-told}
+use Rattle.azimuthal_inverse.specs.Steps.{on-map}
+use Rattle.azimuthal_inverse.specs.Answer.{inverseOf, geodetic-told}
+use Rattle.units.specs.Answers.{Told, accepted, refused}
 
 -- what a position and a plane point are told, with the set p
 abbrev pub forward-told : Parameters → ℤ → ℤ → Told

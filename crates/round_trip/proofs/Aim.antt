@@ -12,8 +12,8 @@ use Rattle.proof_kit.proofs.Ring.{ring, quote}
 use Rattle.proof_kit.proofs.Order.{order, pos-≤, abs-upper}
 use Rattle.proof_kit.proofs.Size.{sizes, abs-by, abs-neg}
 use Rattle.proof_kit.proofs.Certificate.{certify, nonneg}
-use Rattle.sine_table.specs.Table.{unit}
-use Rattle.trig.specs.Sine.{minute, right-angle, half-turn, full-turn, sine, cosine}
+use Rattle.units.specs.Units.{unit, minute, right-angle, half-turn, full-turn}
+use Rattle.trig.specs.Sine.{sine, cosine}
 use Rattle.trig.proofs.Interface.{A, sine-odd, cosine-even, sine-size, cosine-size}
 use Rattle.round_trip.proofs.Circle.{sine-turns, cosine-turns, outside-circle}
 use Rattle.round_trip.proofs.Cross.{cross, cross-right, cross-law}

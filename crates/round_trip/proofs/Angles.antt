@@ -11,16 +11,16 @@ use lib.Signed.{_≤ℤ_}
 use Rattle.proof_kit.proofs.Order.{pos-≤ℤ}
 use Rattle.proof_kit.proofs.Ring.{ring, ring-from, quote}
 use Rattle.proof_kit.proofs.Size.{abs-by, abs-sub-le, sizes}
-use Rattle.trig.specs.Sine.{right-angle, half-turn, full-turn, sine, cosine}
-use Rattle.ellipsoid.specs.declared.constants.Constants.{Constants}
-use Rattle.ellipsoid.specs.declared.latitude.Geodetic.{Geodetic}
-use Rattle.ellipsoid.specs.declared.parameters.Parameters.{Parameters}
-use Rattle.projection.specs.declared.inverse.SpherePoint.{SpherePoint}
-use Rattle.ellipsoid.specs.Latitude.{betaMas}
-use Rattle.projection.specs.ForwardSteps.{b, c, u, v, dE, dN}
-use Rattle.projection.specs.InverseSteps.{found}
-use Rattle.ellipsoid.proofs.AuthalicLaws.{beta-size}
-use Rattle.projection.proofs.AngleLaws.{radius}
+use Rattle.units.specs.Units.{right-angle, half-turn, full-turn}
+use Rattle.trig.specs.Sine.{sine, cosine}
+use Rattle.constants.specs.declared.Constants.{Constants}
+use Rattle.latitudes.specs.declared.Geodetic.{Geodetic}
+use Rattle.parameters.specs.declared.Parameters.{Parameters}
+use Rattle.azimuthal_inverse.specs.declared.SpherePoint.{SpherePoint}
+use Rattle.latitudes.proofs.AuthalicLaws.{betaMas, beta-size}
+use Rattle.azimuthal_forward.specs.Steps.{b, c, u, v, dE, dN}
+use Rattle.azimuthal_inverse.specs.Steps.{found}
+use Rattle.azimuthal_inverse.proofs.AngleLaws.{radius}
 use Rattle.round_trip.specs.RoundTrip.{turnGap}
 use Rattle.round_trip.proofs.Numerals.{unit, E1, Ez, ER}
 use Rattle.round_trip.proofs.Tools.{Near, parts}

@@ -20,24 +20,25 @@ use Rattle.integers.specs.Near.{near}
 use Rattle.integers.specs.Root.{root}
 use Rattle.integers.proofs.Rounding.{near-zero, near-whole}
 use Rattle.integers.proofs.Squares.{root-is}
-use Rattle.trig.specs.Sine.{right-angle, half-turn, full-turn, sine, cosine}
+use Rattle.units.specs.Units.{right-angle, half-turn, full-turn, U}
+use Rattle.trig.specs.Sine.{sine, cosine}
 use Rattle.trig.proofs.Interface.{cosine-nonneg}
-use Rattle.ellipsoid.specs.declared.constants.Constants.{Constants}
-use Rattle.ellipsoid.specs.declared.latitude.AuthalicSeries.{AuthalicSeries}
-use Rattle.ellipsoid.specs.declared.latitude.Geodetic.{Geodetic}
-use Rattle.ellipsoid.specs.declared.parameters.Parameters.{Parameters}
-use Rattle.projection.specs.declared.inverse.SpherePoint.{SpherePoint}
-use Rattle.projection.specs.declared.inverse.GeodeticAnswer.the-variants.{Position}
-use Rattle.ellipsoid.specs.ParameterSet.{same, within}
-use Rattle.ellipsoid.specs.Latitude.{betaMas, Small, geodetic}
-use Rattle.ellipsoid.specs.Derived.{U}
-use Rattle.projection.specs.ForwardSteps.{H, near-enough}
-use Rattle.projection.specs.InverseSteps.{dropOf, G, up, level, zOf, fOf, pointOf, X, Y, K, found, latitudeOf, longitudeOf, wrapped, positionOf, at-origin, on-map, unprojected}
-use Rattle.ellipsoid.proofs.AcceptedSet.{Between, both, same-equal}
-use Rattle.ellipsoid.proofs.AuthalicLaws.{beta-slope, beta-size}
-use Rattle.projection.proofs.ConstantsLaws.{Sound}
-use Rattle.projection.proofs.InverseLaws.{unprojected-origin, unprojected-position}
-use Rattle.projection.proofs.AngleLaws.{radius, latitude-size, wrapped-low, wrapped-high, wrapped-between}
+use Rattle.constants.specs.declared.Constants.{Constants}
+use Rattle.latitudes.specs.declared.AuthalicSeries.{AuthalicSeries}
+use Rattle.latitudes.specs.declared.Geodetic.{Geodetic}
+use Rattle.parameters.specs.declared.Parameters.{Parameters}
+use Rattle.azimuthal_inverse.specs.declared.SpherePoint.{SpherePoint}
+use Rattle.azimuthal_inverse.specs.declared.GeodeticAnswer.the-variants.{Position}
+use Rattle.units.specs.Spans.{same, within, wrapped}
+use Rattle.latitudes.proofs.AuthalicLaws.{betaMas, beta-slope, beta-size}
+use Rattle.latitudes.specs.Latitude.{SmallSeries, geodetic}
+use Rattle.azimuthal_forward.specs.Steps.{H, near-enough}
+use Rattle.azimuthal_inverse.specs.Steps.{versineOf, G, up, level, zOf, fOf, pointOf, X, Y, K, found, latitudeOf, longitudeOf, positionOf, at-origin, on-map, unprojected}
+use Rattle.units.proofs.Spans.{Between, same-equal, wrapped-low, wrapped-high, wrapped-between}
+use Rattle.integers.proofs.Greatest.{both}
+use Rattle.constants.proofs.ConstantsLaws.{Sound}
+use Rattle.azimuthal_inverse.proofs.InverseLaws.{unprojected-origin, unprojected-position}
+use Rattle.azimuthal_inverse.proofs.AngleLaws.{radius, latitude-size}
 use Rattle.round_trip.proofs.Numerals.{unit}
 use Rattle.round_trip.proofs.Tools.{squares}
 use Rattle.round_trip.proofs.Sector.{Sector, angle-sector, latitude-sector, own-sector, zero-sector}
@@ -122,7 +123,7 @@ origin dE dN e =
     (same-equal dE (pos 0) (t .0), same-equal dN (pos 0) (t .1))
 
 -- latitudes whose β are close are close, as β rises by at least 0.993 for each mas, but for one
-module _ (k : AuthalicSeries) (small : Small k) where
+module _ (k : AuthalicSeries) (small : SmallSeries k) where
   -- n mas of latitude are few where their β are close
   few : (n : ℕ) (x y : ℤ) → (pos 993 *ℤ pos n -ℤ pos 1000) ≤ℤ (pos 1000 *ℤ (y -ℤ x)) → natAbs (y -ℤ x) ≤ 96 → n ≤ 98
   few n x y slope close =
@@ -159,7 +160,7 @@ module _ (k : Constants) (sound : Sound k) where
 
   -- so K is 0
   K-zero : K k (pos 0) (pos 0) ≡ pos 0
-  unfolding K dropOf
+  unfolding K versineOf
   K-zero = rw (X-zero, Y-zero) (near-zero (2 * unit) (lit< tt))
 
   -- at 0 the point is in the middle of the map

@@ -11,8 +11,8 @@ use Rattle.proof_kit.proofs.Ring.{ring, quote}
 use Rattle.proof_kit.proofs.Order.{order, abs-upper, abs-square-le}
 use Rattle.proof_kit.proofs.Size.{abs-sub-sym}
 use Rattle.proof_kit.proofs.Certificate.{certify, nonneg}
-use Rattle.sine_table.specs.Table.{unit}
-use Rattle.trig.specs.Sine.{minute, right-angle, half-turn, full-turn, sine, cosine}
+use Rattle.units.specs.Units.{unit, minute, right-angle, half-turn, full-turn}
+use Rattle.trig.specs.Sine.{sine, cosine}
 use Rattle.trig.proofs.Interface.{A, sine-supplement, sine-full-turn, sine-quarter-turn, cosine-quarter-turn, cosine-complement, sine-change, near-circle}
 
 -- ---- reflections

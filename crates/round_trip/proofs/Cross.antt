@@ -10,8 +10,8 @@ use lib.IntN.{ℤ, pos, negℤ, _+ℤ_, _-ℤ_, _*ℤ_, +ℤ-idr}
 use Rattle.proof_kit.proofs.Ring.{ring, quote}
 use Rattle.proof_kit.proofs.Order.{abs-upper}
 use Rattle.proof_kit.proofs.Certificate.{certify, nonneg, nonneg-num}
-use Rattle.sine_table.specs.Table.{unit}
-use Rattle.trig.specs.Sine.{minute, right-angle, sine, cosine}
+use Rattle.units.specs.Units.{unit, minute, right-angle}
+use Rattle.trig.specs.Sine.{sine, cosine}
 use Rattle.trig.proofs.Interface.{A, sine-quarter-turn, cosine-quarter-turn, sine-slope, cosine-size, sine-zero, cosine-zero, sine-nonneg, cosine-nonneg}
 use Rattle.trig.proofs.Turns.{every-angle}
 use Rattle.round_trip.proofs.Circle.{swap-turn, sine-before, cosine-before, cosine-near, outside-circle, sine-plus-cosine}

@@ -12,20 +12,24 @@ use lib.Signed.{_≤ℤ_}
 use Rattle.proof_kit.proofs.Laws.{P-neg, N-neg}
 use Rattle.proof_kit.proofs.Order.{order, pos-≤, pos-≤ℤ, ≤ℤ-trans, le-leZ}
 use Rattle.proof_kit.proofs.Ring.{ring, quote}
-use Rattle.ellipsoid.specs.declared.constants.Constants.{Constants}
-use Rattle.ellipsoid.specs.declared.latitude.Geodetic.{Geodetic}
-use Rattle.ellipsoid.specs.declared.parameters.Parameters.{Parameters}
-use Rattle.projection.specs.declared.forward.PlaneAnswer.{PlaneAnswer}
-use Rattle.projection.specs.declared.forward.PlaneAnswer.the-variants.{Plane, Refused}
-use Rattle.projection.specs.declared.inverse.GeodeticAnswer.{GeodeticAnswer}
-use Rattle.ellipsoid.specs.ParameterSet.{within, setRefusal}
-use Rattle.ellipsoid.specs.Derived.{β0, S0, C0, constantsOf}
-use Rattle.projection.specs.ForwardSteps.{c, dE, dN, nearness, near-enough, on-globe, forwardPoint, forwardOf}
-use Rattle.projection.specs.InverseSteps.{G as G′, K, on-map, unprojected, inverseOf}
-use Rattle.ellipsoid.proofs.AcceptedSet.{Between, accepted, lat0-size}
-use Rattle.projection.proofs.ConstantsLaws.{sound}
-use Rattle.projection.proofs.ForwardLaws.{forward-off-globe, forward-plane, forward-of-accepted}
-use Rattle.projection.proofs.InverseLaws.{inverse-on-plane, inverse-of-accepted}
+use Rattle.constants.specs.declared.Constants.{Constants}
+use Rattle.latitudes.specs.declared.Geodetic.{Geodetic}
+use Rattle.parameters.specs.declared.Parameters.{Parameters}
+use Rattle.azimuthal_forward.specs.declared.PlaneAnswer.{PlaneAnswer}
+use Rattle.azimuthal_forward.specs.declared.PlaneAnswer.the-variants.{Plane, Refused}
+use Rattle.azimuthal_inverse.specs.declared.GeodeticAnswer.{GeodeticAnswer}
+use Rattle.units.specs.Spans.{within}
+use Rattle.parameters.specs.ParameterSet.{setRefusal}
+use Rattle.constants.specs.Derived.{β0, S0, C0, constantsOf}
+use Rattle.azimuthal_forward.specs.Steps.{c, dE, dN, near-enough, forwardPoint}
+use Rattle.azimuthal_forward.specs.Answer.{nearness, on-globe, forwardOf}
+use Rattle.azimuthal_inverse.specs.Steps.{G as G′, K, on-map, unprojected}
+use Rattle.azimuthal_inverse.specs.Answer.{inverseOf}
+use Rattle.units.proofs.Spans.{Between}
+use Rattle.parameters.proofs.AcceptedSet.{accepted, lat0-size}
+use Rattle.constants.proofs.ConstantsLaws.{sound}
+use Rattle.azimuthal_forward.proofs.ForwardLaws.{forward-off-globe, forward-plane, forward-of-accepted}
+use Rattle.azimuthal_inverse.proofs.InverseLaws.{inverse-on-plane, inverse-of-accepted}
 use Rattle.round_trip.specs.RoundTrip.{farthest-latitude, latitude-bound as latitude-limit, gap-bound, sharp-latitude-bound, sharp-gap-halves, longitudeGap, CloseTo, RoundTripAt, SharpRoundTrip, Demand3}
 use Rattle.round_trip.proofs.Numerals.{unit}
 use Rattle.round_trip.proofs.Limits.{circle-of, within-limits, forward-on-plane}

@@ -11,7 +11,7 @@ use lib.IntN.{ℤ, pos, negsuc, negℤ, natAbs, _+ℤ_, _-ℤ_, _*ℤ_, negℤ-n
 use Rattle.proof_kit.proofs.Laws.{natAbs-parts, one-part, parts--}
 use Rattle.proof_kit.proofs.Ring.{ring, quote}
 use Rattle.proof_kit.proofs.Size.{abs-neg}
-use Rattle.trig.specs.Sine.{full-turn}
+use Rattle.units.specs.Units.{full-turn}
 use Rattle.round_trip.specs.RoundTrip.{turnGap}
 
 -- a number of turns that leaves the gap

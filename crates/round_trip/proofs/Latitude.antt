@@ -15,12 +15,12 @@ use Rattle.proof_kit.proofs.Ring.{ring, quote}
 use Rattle.proof_kit.proofs.Size.{within}
 use Rattle.integers.specs.Greatest.{greatest}
 use Rattle.integers.proofs.Greatest.{greatest-le, greatest-skip, greatest-ge}
-use Rattle.trig.specs.Sine.{right-angle, half-turn}
-use Rattle.ellipsoid.specs.declared.latitude.AuthalicSeries.{AuthalicSeries}
-use Rattle.ellipsoid.specs.declared.latitude.Authalic.{Authalic}
-use Rattle.ellipsoid.specs.declared.latitude.Geodetic.{Geodetic}
-use Rattle.ellipsoid.specs.Latitude.{betaMas, Small, from-south-pole, not-above, geodetic}
-use Rattle.ellipsoid.proofs.AuthalicLaws.{beta-slope}
+use Rattle.units.specs.Units.{right-angle, half-turn}
+use Rattle.latitudes.specs.declared.AuthalicSeries.{AuthalicSeries}
+use Rattle.latitudes.specs.declared.Authalic.{Authalic}
+use Rattle.latitudes.specs.declared.Geodetic.{Geodetic}
+use Rattle.latitudes.proofs.AuthalicLaws.{betaMas, beta-slope}
+use Rattle.latitudes.specs.Latitude.{SmallSeries, from-south-pole, not-above, geodetic}
 
 -- ---- two latitudes n mas apart, whose β are x and y
 
@@ -36,7 +36,7 @@ above-lower x y z slope close =
 
 -- ---- latitudes counted from the South Pole
 
-module _ (k : AuthalicSeries) (small : Small k) (β′ : Authalic) where
+module _ (k : AuthalicSeries) (small : SmallSeries k) (β′ : Authalic) where
   -- how much β rises from m to m + n
   slope : (m n : ℕ) → (pos 993 *ℤ pos n -ℤ pos 1000) ≤ℤ (pos 1000 *ℤ (betaMas k (from-south-pole (m + n)) -ℤ betaMas k (from-south-pole m)))
   unfolding from-south-pole
@@ -99,7 +99,7 @@ count-most : (φ : ℤ) → natAbs φ ≤ right-angle → natAbs (φ +ℤ pos ri
 count-most φ h = omega (arith, natAbs-parts φ, natAbs-parts (φ +ℤ pos right-angle), one-part (φ +ℤ pos right-angle), parts-+ φ (pos right-angle))
 
 -- the geodetic latitude of a β near that of φ is near φ
-pub geodetic-close : (k : AuthalicSeries) → Small k → (φ : Geodetic) (β′ : Authalic) → natAbs (φ .0) ≤ right-angle →
+pub geodetic-close : (k : AuthalicSeries) → SmallSeries k → (φ : Geodetic) (β′ : Authalic) → natAbs (φ .0) ≤ right-angle →
     natAbs (β′ .0 -ℤ betaMas k (φ .0)) ≤ 96 → natAbs (geodetic k β′ .0 -ℤ φ .0) ≤ 98
 geodetic-close k small φ β′ h close =
     let is : from-south-pole (natAbs (φ .0 +ℤ pos right-angle)) ≡ φ .0 = count-of (φ .0) h in

@@ -18,19 +18,20 @@ use Rattle.integers.specs.Near.{near}
 use Rattle.integers.proofs.Rounding.{near-at-most}
 use Rattle.trig.specs.Sine.{sine, cosine}
 use Rattle.trig.proofs.Interface.{near-circle}
-use Rattle.ellipsoid.specs.declared.latitude.Geodetic.{Geodetic}
-use Rattle.ellipsoid.specs.declared.parameters.Parameters.{Parameters}
-use Rattle.ellipsoid.specs.declared.constants.Constants.{Constants}
-use Rattle.projection.specs.declared.forward.PlaneAnswer.{PlaneAnswer}
-use Rattle.projection.specs.declared.forward.PlaneAnswer.the-variants.{Plane, Refused}
-use Rattle.ellipsoid.specs.ParameterSet.{within, setRefusal}
-use Rattle.ellipsoid.specs.Latitude.{betaMas}
-use Rattle.ellipsoid.specs.Derived.{β0, S0, C0, constantsOf}
-use Rattle.projection.specs.ForwardSteps.{H, b, c, u, v, w, G, dE, dN, nearness, near-enough, on-globe, pick, after, forwardPoint, forwardOf}
-use Rattle.projection.specs.InverseSteps.{on-plane}
-use Rattle.ellipsoid.proofs.AcceptedSet.{accepted}
-use Rattle.projection.proofs.ConstantsLaws.{Sound, sound}
-use Rattle.projection.proofs.ForwardLaws.{b-size, c-size, u-size, v-size, w-size, sum-size, H-least}
+use Rattle.latitudes.specs.declared.Geodetic.{Geodetic}
+use Rattle.parameters.specs.declared.Parameters.{Parameters}
+use Rattle.constants.specs.declared.Constants.{Constants}
+use Rattle.azimuthal_forward.specs.declared.PlaneAnswer.{PlaneAnswer}
+use Rattle.azimuthal_forward.specs.declared.PlaneAnswer.the-variants.{Plane, Refused}
+use Rattle.units.specs.Spans.{within, on-plane}
+use Rattle.parameters.specs.ParameterSet.{setRefusal}
+use Rattle.latitudes.proofs.AuthalicLaws.{betaMas}
+use Rattle.constants.specs.Derived.{β0, S0, C0, constantsOf}
+use Rattle.azimuthal_forward.specs.Steps.{H, b, c, u, v, w, G, dE, dN, near-enough, pick, after, forwardPoint}
+use Rattle.azimuthal_forward.specs.Answer.{nearness, on-globe, forwardOf}
+use Rattle.parameters.proofs.AcceptedSet.{accepted}
+use Rattle.constants.proofs.ConstantsLaws.{Sound, sound}
+use Rattle.azimuthal_forward.proofs.ForwardLaws.{b-size, c-size, u-size, v-size, w-size, sum-size, H-least}
 use Rattle.round_trip.proofs.Forward.{three-circles}
 use Rattle.round_trip.proofs.Numerals.{unit, half}
 use Rattle.round_trip.proofs.Rounding.{near-unit, scale-root}

@@ -11,14 +11,17 @@ use Rattle.proof_kit.proofs.Order.{order, ≤ℤ-trans, leZ-true, le-leZ}
 use Rattle.integers.specs.Near.{near, nearest}
 use Rattle.sine_table.specs.Table.{entry}
 use Rattle.trig.specs.Sine.{between, first-quarter, first-half, one-turn, sine, cosine}
-use Rattle.ellipsoid.specs.declared.latitude.Geodetic.{Geodetic}
-use Rattle.ellipsoid.specs.declared.parameters.Parameters.{Parameters}
-use Rattle.projection.specs.declared.forward.PlaneAnswer.the-variants.{Plane}
-use Rattle.ellipsoid.specs.ParameterSet.{within, same, polar, accepted-a, accepted-e2, accepted-lat0, accepted-lon0, accepted-false, firstRefusal, setRefusal, etrsLaea}
-use Rattle.ellipsoid.specs.Latitude.{terms, rounded, betaMas}
-use Rattle.ellipsoid.specs.Derived.{to-mas, e4, e6, k2, k4, k6, seriesOf, β0, S0, C0, constantsOf}
-use Rattle.projection.specs.ForwardSteps.{b, c, v, G, dE, dN, nearness, near-enough, on-globe, forwardOf}
-use Rattle.projection.proofs.ForwardLaws.{forward-plane, forward-of-accepted}
+use Rattle.latitudes.specs.declared.Geodetic.{Geodetic}
+use Rattle.parameters.specs.declared.Parameters.{Parameters}
+use Rattle.azimuthal_forward.specs.declared.PlaneAnswer.the-variants.{Plane}
+use Rattle.units.specs.Spans.{within, same}
+use Rattle.parameters.specs.ParameterSet.{polar, accepted-a, accepted-e2, accepted-lat0, accepted-lon0, accepted-false, firstRefusal, setRefusal, etrsLaea}
+use Rattle.latitudes.specs.Latitude.{terms, rounded}
+use Rattle.latitudes.proofs.AuthalicLaws.{betaMas}
+use Rattle.constants.specs.Derived.{to-mas, e4, e6, k2, k4, k6, seriesOf, β0, S0, C0, constantsOf}
+use Rattle.azimuthal_forward.specs.Steps.{b, c, v, G, dE, dN, near-enough}
+use Rattle.azimuthal_forward.specs.Answer.{nearness, on-globe, forwardOf}
+use Rattle.azimuthal_forward.proofs.ForwardLaws.{forward-plane, forward-of-accepted}
 
 -- what demand 3 asks of a set and a position, with the forward answer that it speaks of
 pub record Met (p : Parameters) (φ : Geodetic) (lon : ℤ) : Type 0 where

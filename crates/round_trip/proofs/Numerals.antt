@@ -2,7 +2,7 @@
 -- The rest of the proof asks of A only closed inequalities, which the checker computes: a better sine changes the one numeral of A.
 use Prim.Native.Nat.{ℕ, _+_, _*_}
 -- U: what stands for 1, of which sines and lengths are whole multiples
-pub use Rattle.sine_table.specs.Table.{unit}
+pub use Rattle.units.specs.Units.{unit}
 -- | sine² + cosine² − U² | ≤ A · U
 pub use Rattle.trig.proofs.Interface.{A}
 

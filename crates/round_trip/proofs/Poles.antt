@@ -7,11 +7,12 @@ use lib.IntN.{ℤ, pos, negsuc, natAbs, _-ℤ_, _*ℤ_}
 use lib.Signed.{_≤ℤ_}
 use Rattle.proof_kit.proofs.Order.{order, le-of, ≤ℤ-trans, negℤ-mono, abs-lower, abs-upper, abs-between}
 use Rattle.proof_kit.proofs.Ring.{quote}
-use Rattle.trig.specs.Sine.{right-angle, cosine}
+use Rattle.units.specs.Units.{right-angle}
+use Rattle.trig.specs.Sine.{cosine}
 use Rattle.trig.proofs.Interface.{cosine-even, cosine-anti, sine-59-minutes}
-use Rattle.ellipsoid.specs.declared.latitude.AuthalicSeries.{AuthalicSeries}
-use Rattle.ellipsoid.specs.Latitude.{betaMas, Small}
-use Rattle.ellipsoid.proofs.AuthalicLaws.{beta-odd, beta-north-pole, beta-slope, beta-≤}
+use Rattle.latitudes.specs.declared.AuthalicSeries.{AuthalicSeries}
+use Rattle.latitudes.proofs.AuthalicLaws.{betaMas, beta-odd, beta-north-pole, beta-slope, beta-≤}
+use Rattle.latitudes.specs.Latitude.{SmallSeries}
 
 -- ---- the cosine 59 minutes from a pole
 
@@ -28,14 +29,14 @@ cosine-least (negsuc n) h = rw (cosine-even (pos (suc n))) (natural-cosine (suc 
 -- ---- β of 89°
 
 -- from 89° to the pole, β rises by more than 59 minutes, as its slope is near 1
-beta-at-89 : (k : AuthalicSeries) → Small k → betaMas k (pos 320_400_000) ≤ℤ pos 320_460_000
+beta-at-89 : (k : AuthalicSeries) → SmallSeries k → betaMas k (pos 320_400_000) ≤ℤ pos 320_460_000
 beta-at-89 k small = below (betaMas k (pos 320_400_000)) (rw (beta-north-pole k) at (beta-slope k small 3_600_000 (pos 320_400_000)))
   where
     below : (x : ℤ) → (pos 993 *ℤ pos 3_600_000 -ℤ pos 1000) ≤ℤ (pos 1000 *ℤ (pos right-angle -ℤ x)) → x ≤ℤ pos 320_460_000
     below x h = omega (order, le-of (x ∷ []) (search quote depth 40 fits 20000) h)
 
 -- up to 89° on either side β is at least 59 minutes from the poles, as it never falls and is odd
-beta-within : (k : AuthalicSeries) → Small k → (φ : ℤ) → natAbs φ ≤ 320_400_000 → natAbs (betaMas k φ) ≤ 320_460_000
+beta-within : (k : AuthalicSeries) → SmallSeries k → (φ : ℤ) → natAbs φ ≤ 320_400_000 → natAbs (betaMas k φ) ≤ 320_460_000
 beta-within k small φ h =
     let north : betaMas k (pos 320_400_000) ≤ℤ pos 320_460_000 = beta-at-89 k small in
     abs-between (betaMas k φ)
@@ -43,5 +44,5 @@ beta-within k small φ h =
     (≤ℤ-trans (beta-≤ k small (abs-upper φ h)) north)
 
 -- the cosine of β is at least 0.017
-pub cosine-at-89 : (k : AuthalicSeries) → Small k → (φ : ℤ) → natAbs φ ≤ 320_400_000 → pos 17_000_000 ≤ℤ cosine (betaMas k φ)
+pub cosine-at-89 : (k : AuthalicSeries) → SmallSeries k → (φ : ℤ) → natAbs φ ≤ 320_400_000 → pos 17_000_000 ≤ℤ cosine (betaMas k φ)
 cosine-at-89 k small φ h = cosine-least (betaMas k φ) (beta-within k small φ h)

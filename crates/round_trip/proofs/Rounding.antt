@@ -9,7 +9,7 @@ use Rattle.integers.specs.Near.{near}
 use Rattle.integers.specs.Root.{root}
 use Rattle.integers.proofs.Rounding.{near-close}
 use Rattle.integers.proofs.Squares.{root-low, root-high}
-use Rattle.projection.specs.ForwardSteps.{H}
+use Rattle.azimuthal_forward.specs.Steps.{H}
 use Rattle.round_trip.proofs.Numerals.{unit, half}
 use Rattle.round_trip.proofs.Tools.{Near, Root, squares}
 

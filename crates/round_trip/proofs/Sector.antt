@@ -17,7 +17,8 @@ use Rattle.proof_kit.proofs.Certificate.{certify, nonneg, nonneg-gap, nonneg-nu
 use Rattle.integers.specs.Near.{signed}
 use Rattle.integers.specs.Greatest.{greatest}
 use Rattle.integers.proofs.Greatest.{greatest-le, greatest-passes, greatest-ge}
-use Rattle.trig.specs.Sine.{right-angle, half-turn, sine, cosine}
+use Rattle.units.specs.Units.{right-angle, half-turn}
+use Rattle.trig.specs.Sine.{sine, cosine}
 use Rattle.trig.specs.Angle.{under, angle}
 use Rattle.trig.proofs.Interface.{sine-odd, sine-supplement, sine-quarter-turn, cosine-quarter-turn, cosine-even, cosine-complement, sine-nonneg, cosine-nonneg, sine-mono, cosine-anti}
 use Rattle.trig.proofs.Angles.{under-zero, under-falls, angle-none, angle-some}

@@ -12,16 +12,16 @@ use Rattle.proof_kit.proofs.Order.{order, pos-≤, pos-abs, ≤ℤ-trans}
 use Rattle.integers.specs.Near.{near}
 use Rattle.trig.specs.Sine.{sine, cosine}
 use Rattle.trig.proofs.Interface.{sine-size, cosine-size, near-circle}
-use Rattle.ellipsoid.specs.declared.constants.Constants.{Constants}
-use Rattle.projection.specs.declared.inverse.SpherePoint.{SpherePoint}
-use Rattle.ellipsoid.specs.Latitude.{betaMas}
-use Rattle.ellipsoid.specs.Derived.{U}
-use Rattle.projection.specs.ForwardSteps.{H, b, c, u, v, w, G, dE, dN}
-use Rattle.projection.specs.InverseSteps.{dropOf, G as G′, up, level, zOf, fOf, pointOf, X, Y, K, found}
-use Rattle.ellipsoid.proofs.AcceptedSet.{Between}
-use Rattle.projection.proofs.ForwardLaws.{H-least}
-use Rattle.projection.proofs.ConstantsLaws.{Sound}
-use Rattle.projection.proofs.AngleLaws.{radius}
+use Rattle.constants.specs.declared.Constants.{Constants}
+use Rattle.azimuthal_inverse.specs.declared.SpherePoint.{SpherePoint}
+use Rattle.latitudes.proofs.AuthalicLaws.{betaMas}
+use Rattle.units.specs.Units.{U}
+use Rattle.azimuthal_forward.specs.Steps.{H, b, c, u, v, w, G, dE, dN}
+use Rattle.azimuthal_inverse.specs.Steps.{versineOf, G as G′, up, level, zOf, fOf, pointOf, X, Y, K, found}
+use Rattle.units.proofs.Spans.{Between}
+use Rattle.azimuthal_forward.proofs.ForwardLaws.{H-least}
+use Rattle.constants.proofs.ConstantsLaws.{Sound}
+use Rattle.azimuthal_inverse.proofs.AngleLaws.{radius}
 use Rattle.round_trip.proofs.Numerals.{unit}
 use Rattle.round_trip.proofs.Tools.{Near, OnCircle}
 use Rattle.round_trip.proofs.Rounding.{near-near, near-unit, length-root, scale-root}
@@ -141,7 +141,7 @@ module _ {k : Constants} {φ Δ : ℤ} (g : Given k φ Δ) where
   -- the inverse steps
   inverse-steps :
       Inverse (k .s0) (k .c0) (u k φ Δ) (w k φ Δ) (dE k φ Δ) (dN k φ Δ) (X k (dE k φ Δ)) (Y k (dN k φ Δ)) K′ (point .east) (level K′ (Y k (dN k φ Δ))) (point .z) (point .f) (natAbs height) (H (G k φ Δ)) (natAbs (k .rd)) (natAbs (k .rn)) (H (G′ K′)) (radius point)
-  unfolding dE dN X Y K dropOf level up zOf fOf pointOf found G′
+  unfolding dE dN X Y K versineOf level up zOf fOf pointOf found G′
   inverse-steps =
       let x : ℤ = X k (dE k φ Δ) in
       let y : ℤ = Y k (dN k φ Δ) in

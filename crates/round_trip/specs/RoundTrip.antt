@@ -3,19 +3,19 @@ use Prim.Native.Nat.{ℕ, _-_, _*_, _%_, _≤_, min}
 use mathlib.Core.Path.{_≡_}
 use lib.IntN.{ℤ, pos, natAbs, _-ℤ_, _*ℤ_}
 use lib.Signed.{_≤ℤ_}
-use Rattle.sine_table.specs.Table.{unit}
-use Rattle.trig.specs.Sine.{full-turn, cosine}
-use Rattle.ellipsoid.specs.declared.latitude.Geodetic.{Geodetic}
-use Rattle.ellipsoid.specs.declared.parameters.Parameters.{Parameters}
-use Rattle.projection.specs.declared.forward.PlaneAnswer.{PlaneAnswer}
-use Rattle.projection.specs.declared.forward.PlaneAnswer.the-variants.{Plane, Refused}
-use Rattle.projection.specs.declared.inverse.GeodeticAnswer.{GeodeticAnswer}
-use Rattle.projection.specs.declared.inverse.GeodeticAnswer.the-variants.{Position, Refused as NotFound}
-use Rattle.ellipsoid.specs.ParameterSet.{setRefusal}
-use Rattle.ellipsoid.specs.Latitude.{betaMas}
-use Rattle.ellipsoid.specs.Derived.{seriesOf}
-use Rattle.projection.specs.ForwardSteps.{nearness, forwardOf}
-use Rattle.projection.specs.InverseSteps.{inverseOf}
+use Rattle.units.specs.Units.{unit, full-turn}
+use Rattle.trig.specs.Sine.{cosine}
+use Rattle.latitudes.specs.declared.Geodetic.{Geodetic}
+use Rattle.parameters.specs.declared.Parameters.{Parameters}
+use Rattle.azimuthal_forward.specs.declared.PlaneAnswer.{PlaneAnswer}
+use Rattle.azimuthal_forward.specs.declared.PlaneAnswer.the-variants.{Plane, Refused}
+use Rattle.azimuthal_inverse.specs.declared.GeodeticAnswer.{GeodeticAnswer}
+use Rattle.azimuthal_inverse.specs.declared.GeodeticAnswer.the-variants.{Position, Refused as NotFound}
+use Rattle.parameters.specs.ParameterSet.{setRefusal}
+use Rattle.latitudes.proofs.AuthalicLaws.{betaMas}
+use Rattle.constants.specs.Derived.{seriesOf}
+use Rattle.azimuthal_forward.specs.Answer.{nearness, forwardOf}
+use Rattle.azimuthal_inverse.specs.Answer.{inverseOf}
 
 -- The numbers of demand 3: at most 89 degrees from the Equator, in mas; the nearness G; the two bounds, in mas.
 abbrev pub farthest-latitude : ℕ

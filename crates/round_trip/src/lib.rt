@@ -1,12 +1,12 @@
 // Demand 3: the round trip. The statement is in specs/RoundTrip.antt, its proof in proofs/.
-use ellipsoid::latitude::Geodetic;
-use ellipsoid::parameters::Parameters;
-use projection::forward::PlaneAnswer;
-use projection::forward::forward;
-use projection::inverse::GeodeticAnswer;
-use projection::inverse::inverse;
+use latitudes::Geodetic;
+use parameters::Parameters;
+use azimuthal_forward::PlaneAnswer;
+use azimuthal_forward::forward;
+use azimuthal_inverse::GeodeticAnswer;
+use azimuthal_inverse::inverse;
 ghost use mathlib.Core.Path.{_≡_};
-ghost use Rattle.projection.specs.ForwardSteps.{forwardOf};
+ghost use Rattle.azimuthal_forward.specs.Answer.{forwardOf};
 ghost use Rattle.round_trip.specs.RoundTrip.{latitude-bound, gap-bound, RoundTripAt, thereAndBack};
 
 // To the plane and back: the inverse answer for exactly the forward answer, or its refusal.

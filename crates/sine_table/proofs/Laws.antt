@@ -11,7 +11,8 @@ use mathlib.Core.List.{List, [], _∷_}
 use lib.Dec.{T, lit≤}
 use lib.ListN.{getD}
 use lib.Ieee.Fits.{and-l, and-r}
-use Rattle.sine_table.specs.Table.{unit, entry}
+use Rattle.units.specs.Units.{unit}
+use Rattle.sine_table.specs.Table.{entry, StrictlyRising}
 use Rattle.sine_table.proofs.Orders.{Order, _≤?_, Holds, pass, nth}
 
 -- What is tested at minute k: s and s′ are the entries of k and k + 1, c and c′ those of 5400 - k and 5399 - k.
@@ -58,8 +59,7 @@ at k h i =
     let next : suc (5399 - k) ≡ 5400 - k = omega arith in
     nth (orders-at k) (rw (add-zero, next) at (carry (5399 - k) k 0 (rw all-minutes at all-tested))) i
 
--- "with T strictly rising"
-pub rises : (k : ℕ) → k < 5400 → entry k < entry (suc k)
+pub rises : StrictlyRising
 rises k h = at k h 0
 
 -- The rise over a minute is at most 290,889.

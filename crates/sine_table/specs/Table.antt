@@ -5,10 +5,7 @@ use mathlib.Core.Path.{_≡_}
 use mathlib.Core.List.{List}
 use lib.ListN.{getD}
 use Rattle.integers.specs.Near.{nearest}
-
--- "U = 1,000,000,000."
-abbrev pub unit : ℕ
-unit = 1_000_000_000
+use Rattle.units.specs.Units.{unit}
 
 -- "at x = k · 290,888,208,665,721,596 / 10^21"
 unfoldable pub x-numerator : ℕ → ℕ
@@ -44,3 +41,7 @@ entry k = nearest (unit * (positive k - negative k)) common-denominator
 -- "Table T has 5,401 entries, minute 0 to 5400."
 unfoldable pub IsTable : List ℕ → Type 0
 IsTable xs = (k : ℕ) → k < 5401 → getD xs k 0 ≡ entry k
+
+-- "with T strictly rising"
+abbrev pub StrictlyRising : Type 0
+StrictlyRising = (k : ℕ) → k < 5400 → entry k < entry (suc k)

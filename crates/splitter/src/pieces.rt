@@ -1,14 +1,14 @@
 // Lines of an input that comes in pieces of any size. A line that a piece does not end is carried to
 // the next.
-use ellipsoid::constants::Constants;
+use constants::Constants;
 use lines::line::answer_at;
 ghost use mathlib.Core.Path.{_≡_};
 ghost use mathlib.Core.List.{[], _++_};
 ghost use Prim.Native.Nat.{_+_, _*_, _-_, _≤_};
 ghost use lib.ListN.{length, drop};
 ghost use Rattle.sine_table.specs.Table.{IsTable};
-ghost use Rattle.ellipsoid.specs.ParameterSet.{etrsLaea};
-ghost use Rattle.ellipsoid.specs.Derived.{constantsOf};
+ghost use Rattle.parameters.specs.ParameterSet.{etrsLaea};
+ghost use Rattle.constants.specs.Derived.{constantsOf};
 ghost use Rattle.lines.specs.Numbers.{written as writtenAt};
 ghost use Rattle.lines.specs.Lines.{answerLine};
 ghost use Rattle.splitter.specs.Splitting.{endedLines, partLeft, lastLine, answersOf, kept, toNewline, partOf};

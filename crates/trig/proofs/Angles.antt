@@ -11,7 +11,8 @@ use lib.Signed.{leZ}
 use borrow.Author.Tests.{le-leb, leb-true, eq-eqb, ne-eqb}
 use Rattle.integers.specs.Greatest.{greatest}
 use Rattle.integers.proofs.Greatest.{Falls, greatest-edge}
-use Rattle.trig.specs.Sine.{right-angle, first-quarter}
+use Rattle.units.specs.Units.{right-angle}
+use Rattle.trig.specs.Sine.{first-quarter}
 use Rattle.trig.specs.Angle.{under, angle}
 use Rattle.trig.proofs.Quarter.{quarter-mono, quarter-zero}
 use Rattle.trig.proofs.Symmetry.{sine-first, cosine-first}

@@ -11,9 +11,9 @@ use lib.IntN.{ℤ, pos, negsuc, negℤ, natAbs, _+ℤ_, _-ℤ_, _*ℤ_, +ℤ-idr
 use Rattle.proof_kit.proofs.Ring.{ring, quote}
 use Rattle.proof_kit.proofs.Order.{pos-≤ℤ, le-by}
 use Rattle.proof_kit.proofs.Size.{within, abs-neg, abs-via, abs-sub-sym}
-use Rattle.sine_table.specs.Table.{unit}
+use Rattle.units.specs.Units.{unit, right-angle, half-turn}
 use Rattle.sine_table.proofs.Laws.{entry-59, entry-300}
-use Rattle.trig.specs.Sine.{right-angle, half-turn, first-quarter, sine, cosine}
+use Rattle.trig.specs.Sine.{first-quarter, sine, cosine}
 use Rattle.trig.proofs.Quarter.{quarter-mono, quarter-step, quarter-slope, quarter-circle, quarter-at-most, quarter-minute, quarter-zero, quarter-right}
 use Rattle.trig.proofs.Symmetry.{sine-first, cosine-first, sine-upper}
 pub use Rattle.trig.proofs.Symmetry.{sine-odd, sine-supplement, sine-half-turn, sine-full-turn, sine-quarter-turn, cosine-quarter-turn, cosine-even, cosine-complement}

@@ -12,9 +12,10 @@ use borrow.Author.Tests.{eqb-true}
 use Rattle.integers.specs.Near.{nearest}
 use Rattle.integers.proofs.Squares.{mean}
 use Rattle.integers.proofs.Rounding.{nearest-low, nearest-high, nearest-mono, nearest-shift, nearest-whole}
-use Rattle.sine_table.specs.Table.{unit, entry}
+use Rattle.units.specs.Units.{unit, minute, right-angle}
+use Rattle.sine_table.specs.Table.{entry}
 use Rattle.sine_table.proofs.Laws.{rises, step, slope, bend, OnCircle, circle, entry-at-most, entry-zero, entry-last}
-use Rattle.trig.specs.Sine.{minute, right-angle, between, first-quarter}
+use Rattle.trig.specs.Sine.{between, first-quarter}
 
 some : 0 < minute
 some = lit< tt

@@ -11,8 +11,8 @@ use borrow.Author.Tests.{le-leb, lt-leb}
 use Rattle.proof_kit.proofs.Laws.{by-parts, parts--}
 use Rattle.proof_kit.proofs.Order.{le-or-lt}
 use Rattle.proof_kit.proofs.Ring.{ring, quote}
-use Rattle.sine_table.specs.Table.{unit}
-use Rattle.trig.specs.Sine.{right-angle, half-turn, full-turn, first-quarter, first-half, one-turn, sine, cosine}
+use Rattle.units.specs.Units.{unit, right-angle, half-turn, full-turn}
+use Rattle.trig.specs.Sine.{first-quarter, first-half, one-turn, sine, cosine}
 use Rattle.trig.proofs.Quarter.{quarter-zero, quarter-at-most}
 
 pub half-low : {θ : ℕ} → θ ≤ right-angle → first-half θ ≡ first-quarter θ

@@ -7,7 +7,7 @@ use native.Mathlib.Omega.{arith}
 use lib.Dec.{lit<}
 use lib.IntN.{ℤ, pos, negsuc, _+ℤ_, +ℤ-idr, +ℤ-assoc}
 use Rattle.proof_kit.proofs.Laws.{by-parts, parts-+}
-use Rattle.trig.specs.Sine.{right-angle}
+use Rattle.units.specs.Units.{right-angle}
 
 module _
     (Holds : ℤ → Type 0)

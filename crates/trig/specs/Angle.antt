@@ -5,7 +5,8 @@ use lib.Dec.{eqb}
 use lib.IntN.{pos, _*ℤ_}
 use lib.Signed.{leZ}
 use Rattle.integers.specs.Greatest.{greatest}
-use Rattle.trig.specs.Sine.{right-angle, sine, cosine}
+use Rattle.units.specs.Units.{right-angle}
+use Rattle.trig.specs.Sine.{sine, cosine}
 
 -- "sine(θ) · p is not above cosine(θ) · q"
 unfoldable pub under : ℕ → ℕ → ℕ → Bool

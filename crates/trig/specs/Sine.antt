@@ -4,20 +4,8 @@ use mathlib.Core.Bool.{cond}
 use lib.Dec.{leb, eqb}
 use lib.IntN.{ℤ, pos, negsuc, negℤ, _-ℤ_}
 use Rattle.integers.specs.Near.{nearest}
+use Rattle.units.specs.Units.{minute, right-angle, half-turn, full-turn}
 use Rattle.sine_table.specs.Table.{entry}
-
--- "90° = 324,000,000 mas. One minute = 60,000 mas."
-abbrev pub minute : ℕ
-minute = 60_000
-
-abbrev pub right-angle : ℕ
-right-angle = 324_000_000
-
-abbrev pub half-turn : ℕ
-half-turn = 648_000_000
-
-abbrev pub full-turn : ℕ
-full-turn = 1_296_000_000
 
 -- "θ = 60,000k + r, r below 60,000: T[k] + near((T[k+1] − T[k]) · r / 60,000); for r = 0 it is T[k]."
 unfoldable pub between : ℕ → ℕ → ℕ

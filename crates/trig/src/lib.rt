@@ -4,17 +4,24 @@ use integers::excess;
 use integers::magnitude;
 use integers::nearest;
 use integers::signed;
+use sine_table::Table;
+use units::FULL_TURN;
+use units::HALF_TURN;
+use units::LATITUDE_MOST;
+use units::MINUTE;
+use units::RIGHT_ANGLE;
 ghost use mathlib.Core.Path.{_≡_};
 ghost use mathlib.Core.Bool.{true};
 ghost use Prim.Native.Nat.{_<_, _≤_, _^_};
 ghost use lib.IntN.{natAbs};
 ghost use Rattle.integers.specs.Greatest.{greatest, bracketed};
 ghost use Rattle.sine_table.specs.Table.{IsTable, entry};
-ghost use Rattle.trig.specs.Sine.{right-angle, half-turn, first-quarter, first-half, sine, cosine};
+ghost use Rattle.units.specs.Units.{right-angle, half-turn};
+ghost use Rattle.trig.specs.Sine.{first-quarter, first-half, sine, cosine};
 ghost use Rattle.trig.specs.Angle.{under, angle};
 
 // T[k].
-fn minute_sine(t: &[u32; 5401], k: u64) -> u64
+fn minute_sine(t: &Table, k: u64) -> u64
     requires { ⌜ IsTable (now t) × (k < 5401) ⌝ }
     ensures { λ r. ⌜ r ≡ entry k ⌝ }
 {
@@ -22,63 +29,63 @@ fn minute_sine(t: &[u32; 5401], k: u64) -> u64
 }
 
 // The sine of an angle from 0 to 90°.
-fn first_quarter(t: &[u32; 5401], theta: u64) -> u64
+fn first_quarter(t: &Table, theta: u64) -> u64
     requires { ⌜ IsTable (now t) × (theta ≤ right-angle) ⌝ }
     ensures { λ r. ⌜ r ≡ first-quarter theta ⌝ }
 {
-    let k = theta / 60000;
-    let r = theta % 60000;
+    let k = theta / MINUTE;
+    let r = theta % MINUTE;
     let low = minute_sine(t, k);
     if r == 0 {
         return low;
     }
-    low + nearest((minute_sine(t, k + 1) - low) * r, 60000)
+    low + nearest((minute_sine(t, k + 1) - low) * r, MINUTE)
 }
 
 // The sine of an angle from 0 to 180°.
-fn first_half(t: &[u32; 5401], theta: u64) -> u64
+fn first_half(t: &Table, theta: u64) -> u64
     requires { ⌜ IsTable (now t) × (theta ≤ half-turn) ⌝ }
     ensures { λ r. ⌜ r ≡ first-half theta ⌝ }
 {
-    if theta <= 324000000 {
+    if theta <= RIGHT_ANGLE {
         first_quarter(t, theta)
     } else {
-        first_quarter(t, 648000000 - theta)
+        first_quarter(t, HALF_TURN - theta)
     }
 }
 
 // The sine of any angle.
-pub fn sine(t: &[u32; 5401], theta: i64) -> i64
+pub fn sine(t: &Table, theta: i64) -> i64
     requires { ⌜ IsTable (now t) ⌝ }
     ensures { λ r. ⌜ r ≡ sine theta ⌝ }
 {
     let negative = theta < 0;
-    let size = magnitude(theta) % 1296000000;
-    if size <= 648000000 {
+    let size = magnitude(theta) % FULL_TURN;
+    if size <= HALF_TURN {
         signed(negative, first_half(t, size))
     } else {
-        signed(!negative, first_half(t, 1296000000 - size))
+        signed(!negative, first_half(t, FULL_TURN - size))
     }
 }
 
 // The cosine of any angle that leaves room to be taken from 90°.
-pub fn cosine(t: &[u32; 5401], theta: i64) -> i64
+pub fn cosine(t: &Table, theta: i64) -> i64
     requires { ⌜ IsTable (now t) × (natAbs theta < 2 ^ 62) ⌝ }
     ensures { λ r. ⌜ r ≡ cosine theta ⌝ }
 {
-    sine(t, 324000000 - theta)
+    sine(t, LATITUDE_MOST - theta)
 }
 
 // Whether sine(θ)·p is not above cosine(θ)·q.
-fn is_under(t: &[u32; 5401], p: u64, q: u64, theta: u64) -> bool
+fn is_under(t: &Table, p: u64, q: u64, theta: u64) -> bool
     requires { ⌜ IsTable (now t) × (p ≤ 18_000_000_000) × (q ≤ 18_000_000_000) × (theta ≤ right-angle) ⌝ }
     ensures { λ r. ⌜ r ≡ under p q theta ⌝ }
 {
-    first_quarter(t, theta) * p <= first_quarter(t, 324000000 - theta) * q
+    first_quarter(t, theta) * p <= first_quarter(t, RIGHT_ANGLE - theta) * q
 }
 
 // The greatest angle up to `high` that is under, where `low` is: halves the span until one is left.
-fn search(t: &[u32; 5401], p: u64, q: u64, low: u64, high: u64) -> u64
+fn search(t: &Table, p: u64, q: u64, low: u64, high: u64) -> u64
     requires { ⌜ IsTable (now t) × (p ≤ 18_000_000_000) × (q ≤ 18_000_000_000) × (low ≤ high) × (high ≤ right-angle) × (under p q low ≡ true) ⌝ }
     ensures { λ r. ⌜ r ≡ greatest (under p q) high ⌝ }
 {
@@ -95,14 +102,14 @@ fn search(t: &[u32; 5401], p: u64, q: u64, low: u64, high: u64) -> u64
 
 // Whether the greatest angle that is under lies from `low` to `high`: `low` is under, and the angle
 // after `high` is not or is past 90°.
-fn is_bracketed(t: &[u32; 5401], p: u64, q: u64, low: u64, high: u64) -> bool
+fn is_bracketed(t: &Table, p: u64, q: u64, low: u64, high: u64) -> bool
     requires { ⌜ IsTable (now t) × (p ≤ 18_000_000_000) × (q ≤ 18_000_000_000) × (low ≤ right-angle) × (high ≤ right-angle) ⌝ }
     ensures { λ r. ⌜ r ≡ bracketed (under p q) right-angle low high ⌝ }
 {
     if !is_under(t, p, q, low) {
         return false;
     }
-    if high == 324000000 {
+    if high == RIGHT_ANGLE {
         return true;
     }
     !is_under(t, p, q, high + 1)
@@ -110,12 +117,12 @@ fn is_bracketed(t: &[u32; 5401], p: u64, q: u64, low: u64, high: u64) -> bool
 
 // The greatest angle that is under: searches the span of this margin about the estimate, or where
 // that does not hold it a wider one, up to the whole quarter.
-fn search_near(t: &[u32; 5401], p: u64, q: u64, estimate: u64, margin: u64) -> u64
+fn search_near(t: &Table, p: u64, q: u64, estimate: u64, margin: u64) -> u64
     requires { ⌜ IsTable (now t) × (p ≤ 18_000_000_000) × (q ≤ 18_000_000_000) × (estimate ≤ right-angle) × (margin ≤ 6_000_000_000) ⌝ }
     ensures { λ r. ⌜ r ≡ greatest (under p q) right-angle ⌝ }
 {
     let low = excess(estimate, margin);
-    let high = 324000000 - excess(324000000, estimate + margin);
+    let high = RIGHT_ANGLE - excess(RIGHT_ANGLE, estimate + margin);
     if is_bracketed(t, p, q, low, high) {
         return search(t, p, q, low, high);
     }
@@ -127,7 +134,7 @@ fn part(a: u64, x: u64) -> u64
     requires { ⌜ (a ≤ 4_000_000) × (x ≤ 16_384) ⌝ }
     ensures { λ r. ⌜ r ≤ a ⌝ }
 {
-    a * x / 16384
+    a * x / 16_384
 }
 
 // lower/upper in parts of 2^14.
@@ -135,7 +142,7 @@ fn ratio(lower: u64, upper: u64) -> u64
     requires { ⌜ (lower ≤ upper) × (upper ≤ 18_000_000_000) ⌝ }
     ensures { λ r. ⌜ r ≤ 16_384 ⌝ }
 {
-    lower * 16384 / (upper + 1)
+    lower * 16_384 / (upper + 1)
 }
 
 // The angle from 0 to 45° whose tangent is x/2^14, to within 4 minutes: x − x³/3 + x⁵/5 with
@@ -145,7 +152,7 @@ fn arctangent_minutes(x: u64) -> u64
     ensures { λ k. ⌜ k ≤ 5400 ⌝ }
 {
     let square = part(x, x);
-    part(3503912 - part(1016263 - part(279293, square), square), x) / 1024
+    part(3_503_912 - part(1_016_263 - part(279_293, square), square), x) / 1024
 }
 
 // angle(p, q) to within 4 minutes.
@@ -162,20 +169,20 @@ fn estimate_minutes(p: u64, q: u64) -> u64
 // angle(p, q), mostly to the mas where p or q is large. The part of it past minute k has the tangent
 // (cosine(k)·q − sine(k)·p)/(cosine(k)·p + sine(k)·q), and one radian has 206,264,806 mas. Ten
 // minutes are added on the way, so that nothing is negative. Nothing rests on its precision.
-fn estimate(t: &[u32; 5401], p: u64, q: u64) -> u64
+fn estimate(t: &Table, p: u64, q: u64) -> u64
     requires { ⌜ IsTable (now t) × (p ≤ 18_000_000_000) × (q ≤ 18_000_000_000) ⌝ }
     ensures { λ r. ⌜ r ≤ right-angle ⌝ }
 {
     let k = estimate_minutes(p, q);
     let s = minute_sine(t, k);
     let c = minute_sine(t, 5400 - k);
-    let mas = c * p / 206264806 + s * q / 206264806 + 1;
-    let theta = 60000 * k + excess(c * q + 600000 * mas, s * p) / mas;
-    324000000 - excess(324000000, excess(theta, 600000))
+    let mas = c * p / 206_264_806 + s * q / 206_264_806 + 1;
+    let theta = MINUTE * k + excess(c * q + 600_000 * mas, s * p) / mas;
+    RIGHT_ANGLE - excess(RIGHT_ANGLE, excess(theta, 600_000))
 }
 
 // angle(p, q): the angle from 0 to 90° whose sine and cosine are as q and p.
-pub fn angle(t: &[u32; 5401], p: u64, q: u64) -> u64
+pub fn angle(t: &Table, p: u64, q: u64) -> u64
     requires { ⌜ IsTable (now t) × (p ≤ 18_000_000_000) × (q ≤ 18_000_000_000) ⌝ }
     ensures { λ r. ⌜ r ≡ angle p q ⌝ }
 {

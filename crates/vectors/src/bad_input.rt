@@ -1,7 +1,7 @@
 // ETRS-LAEA with one field, or one coordinate, out of its limits: refused, never wrapped.
 use crate::rows::refused_row;
 use crate::rows::set;
-use ellipsoid::parameters::Parameters;
+use parameters::Parameters;
 use printing::line;
 use printing::value;
 

@@ -2,7 +2,7 @@
 use crate::rows::forward_row;
 use crate::rows::inverse_row;
 use crate::rows::set;
-use ellipsoid::parameters::Parameters;
+use parameters::Parameters;
 use printing::line;
 
 // The names of the rows, counted from 0.

@@ -2,7 +2,7 @@
 use crate::rows::forward_row;
 use crate::rows::ground_row;
 use crate::rows::set;
-use ellipsoid::parameters::Parameters;
+use parameters::Parameters;
 use printing::line;
 use trig::cosine;
 ghost use Rattle.sine_table.specs.Table.{IsTable};

@@ -4,7 +4,7 @@ use crate::rows::forward_row;
 use crate::rows::inverse_row;
 use crate::rows::refused_row;
 use crate::rows::set;
-use ellipsoid::parameters::Parameters;
+use parameters::Parameters;
 use integers::near;
 use printing::line;
 use printing::value;

@@ -4,9 +4,9 @@ use crate::rows::set;
 use crate::sizes::cut;
 use crate::sizes::gap;
 use crate::sizes::part;
-use ellipsoid::constants::constants_of;
-use ellipsoid::latitude::Authalic;
-use ellipsoid::latitude::to_geodetic;
+use constants::constants_of;
+use latitudes::Authalic;
+use latitudes::to_geodetic;
 use integers::magnitude;
 use integers::near;
 use printing::number;
@@ -18,7 +18,7 @@ use trig::sine;
 ghost use Prim.Native.Nat.{_<_, _≤_};
 ghost use lib.IntN.{natAbs};
 ghost use Rattle.sine_table.specs.Table.{IsTable};
-ghost use Rattle.trig.specs.Sine.{right-angle};
+ghost use Rattle.units.specs.Units.{right-angle};
 
 // The coefficients of sin 2β, sin 4β and sin 6β, in mas.
 struct Coefficients {

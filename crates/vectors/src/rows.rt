@@ -3,17 +3,17 @@
 use crate::sizes::along_meridian;
 use crate::sizes::along_parallel;
 use crate::sizes::gap;
-use ellipsoid::latitude::Geodetic;
-use ellipsoid::parameters::Parameters;
+use latitudes::Geodetic;
+use parameters::Parameters;
 use printing::number;
 use printing::refusal;
 use printing::size;
 use printing::verdict;
 use printing::words;
 use printing::words::word;
-use projection::forward::PlaneAnswer;
-use projection::inverse::GeodeticAnswer;
-use projection::inverse::inverse;
+use azimuthal_forward::PlaneAnswer;
+use azimuthal_inverse::GeodeticAnswer;
+use azimuthal_inverse::inverse;
 
 // A set by its numbers, in the order of document 01's table.
 pub(crate) fn set(
@@ -69,7 +69,7 @@ fn position_answer(found: GeodeticAnswer) -> Answer {
 // Forward or inverse.
 fn call(forward: bool, p: Parameters, x: i64, y: i64) -> Answer {
     if forward {
-        return plane_answer(projection::forward::forward(p, Geodetic(x), y));
+        return plane_answer(azimuthal_forward::forward(p, Geodetic(x), y));
     }
     position_answer(inverse(p, x, y))
 }

@@ -10,8 +10,8 @@ use mir.Syntax.{w64}
 use mir.Val.{toZ, ofZ}
 use mir.Facts.{toZ-ofZ}
 use Rattle.proof_kit.proofs.Range.{returned}
-use Rattle.projection.specs.InverseSteps.{on-plane}
-use Rattle.projection.specs.Answers.{accepted}
+use Rattle.units.specs.Spans.{on-plane}
+use Rattle.units.specs.Answers.{accepted}
 use Rattle.cells.specs.declared.CellAnswer.the-variants.{Cell}
 use Rattle.cells.specs.Cells.{accepted-side, cellNumber, cellOf, cellRefusal, cellTold}
 use Rattle.cells.proofs.cell.Statement.{statement}

@@ -1,7 +1,7 @@
 -- `is_side` meets its contract: the code compares bits, and every other bit pattern is another side. Assumes nothing.
 use mathlib.Core.Path.{refl, sym}
 use mathlib.Core.Logic.{inl, inr, ⊎-elim}
-use Rattle.ellipsoid.specs.ParameterSet.{within, same}
+use Rattle.units.specs.Spans.{within, same}
 use Rattle.cells.specs.Cells.{accepted-side}
 use Rattle.cells.proofs.Sides.{side-by-bits, other-bits}
 use Rattle.cells.proofs.is_side.Statement.{statement}

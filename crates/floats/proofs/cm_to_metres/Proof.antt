@@ -1,7 +1,7 @@
 -- `floats::cm_to_metres` meets its contract: the divisor's bit pattern is the unit as a double. Assumes nothing.
 use borrow.Author.Needs.{needs}
 use lib.Ieee.{ofBits, ofInt}
-use Rattle.floats.specs.Units.{metre}
+use Rattle.units.specs.Units.{metre}
 use Rattle.floats.proofs.Quotient.{out-is}
 use Rattle.floats.proofs.cm_to_metres.Statement.{statement}
 use Rattle.floats.proofs.cm_to_metres.Tie as tie

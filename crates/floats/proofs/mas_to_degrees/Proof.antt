@@ -1,7 +1,7 @@
 -- `floats::mas_to_degrees` meets its contract: the divisor's bit pattern is the unit as a double. Assumes nothing.
 use borrow.Author.Needs.{needs}
 use lib.Ieee.{ofBits, ofInt}
-use Rattle.floats.specs.Units.{degree}
+use Rattle.units.specs.Units.{degree}
 use Rattle.floats.proofs.Quotient.{out-is}
 use Rattle.floats.proofs.mas_to_degrees.Statement.{statement}
 use Rattle.floats.proofs.mas_to_degrees.Tie as tie

@@ -13,7 +13,8 @@ use mir.Syntax.{w64}
 use mir.Facts.{toZ-ofZ}
 use Rattle.integers.specs.Near.{nearest, signed}
 use Rattle.integers.proofs.Rounding.{nearest-le}
-use Rattle.floats.specs.Units.{degree, wholeOf}
+use Rattle.units.specs.Units.{degree}
+use Rattle.floats.specs.Conversion.{wholeOf}
 use Rattle.floats.specs.Limits.{isFinite}
 use Rattle.floats.proofs.Signs.{signed-zero}
 use Rattle.floats.proofs.Bounds.{AtMost, at-most-finite, finite-number, value-at-most, within-at-most}

@@ -1,8 +1,8 @@
 -- `laea::main` is safe and ends. ETRS-LAEA is an accepted set. Assumes nothing.
 use borrow.Author.Needs.{needs}
 use mathlib.Core.Path.{_≡_, sym, ap, _∙_}
-use Rattle.ellipsoid.specs.ParameterSet.{setRefusal, etrsLaea}
-use Rattle.ellipsoid.specs.Derived.{constantsOf}
+use Rattle.parameters.specs.ParameterSet.{setRefusal, etrsLaea}
+use Rattle.constants.specs.Derived.{constantsOf}
 use Rattle.lines.proofs.Answers.{etrs-accepted}
 use Rattle.laea.proofs.main.Statement.{statement}
 use Rattle.laea.proofs.main.Tie as tie

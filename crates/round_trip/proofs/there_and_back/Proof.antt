@@ -2,8 +2,8 @@
 use borrow.Author.Needs.{needs}
 use mathlib.Core.Path.{sym, ap, ap₂, _∙_}
 use mir.Facts.{toZ-ofZ}
-use Rattle.projection.specs.ForwardSteps.{forwardOf}
-use Rattle.projection.specs.InverseSteps.{inverseOf}
+use Rattle.azimuthal_forward.specs.Answer.{forwardOf}
+use Rattle.azimuthal_inverse.specs.Answer.{inverseOf}
 use Rattle.round_trip.specs.RoundTrip.{thereAndBack}
 use Rattle.round_trip.proofs.Demand3.{demand-3}
 use Rattle.round_trip.proofs.there_and_back.Statement.{statement}

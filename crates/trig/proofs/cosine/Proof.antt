@@ -9,7 +9,8 @@ use mir.Val.{SFits}
 use mir.Facts.{toZ-ofZ}
 use Rattle.proof_kit.proofs.Range.{small-fits}
 use Rattle.proof_kit.proofs.Size.{abs-sub}
-use Rattle.trig.specs.Sine.{right-angle, sine, cosine}
+use Rattle.units.specs.Units.{right-angle}
+use Rattle.trig.specs.Sine.{sine, cosine}
 use Rattle.trig.proofs.cosine.Statement.{statement}
 use Rattle.trig.proofs.cosine.Tie as tie
 

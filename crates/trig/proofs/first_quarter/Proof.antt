@@ -13,7 +13,8 @@ use Rattle.integers.specs.Near.{nearest}
 use Rattle.integers.proofs.Rounding.{nearest-le}
 use Rattle.sine_table.specs.Table.{entry}
 use Rattle.sine_table.proofs.Laws.{rises, step, entry-at-most}
-use Rattle.trig.specs.Sine.{minute, between, first-quarter}
+use Rattle.units.specs.Units.{minute}
+use Rattle.trig.specs.Sine.{between, first-quarter}
 use Rattle.trig.proofs.first_quarter.Statement.{statement}
 use Rattle.trig.proofs.first_quarter.Tie as tie
 

@@ -5,7 +5,7 @@ use mathlib.Core.Bool.{not}
 use native.Mathlib.Omega.{arith}
 use borrow.Author.Tests.{not-true, not-false}
 use Rattle.integers.proofs.Greatest.{low-fails, at-top, next-tested}
-use Rattle.trig.specs.Sine.{right-angle}
+use Rattle.units.specs.Units.{right-angle}
 use Rattle.trig.specs.Angle.{under}
 use Rattle.trig.proofs.Angles.{under-zero, under-falls}
 use Rattle.trig.proofs.is_bracketed.Statement.{statement}

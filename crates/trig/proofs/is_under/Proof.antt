@@ -5,7 +5,8 @@ use Prim.Native.Nat.{ℕ, _*_, _-_, _≤_, _<_, _^_}
 use native.Mathlib.Nat.{mul-le-mul}
 use native.Mathlib.Omega.{arith}
 use lib.Dec.{leb}
-use Rattle.trig.specs.Sine.{right-angle, first-quarter}
+use Rattle.units.specs.Units.{right-angle}
+use Rattle.trig.specs.Sine.{first-quarter}
 use Rattle.trig.proofs.Quarter.{quarter-at-most}
 use Rattle.trig.proofs.Angles.{under-is}
 use Rattle.trig.proofs.is_under.Statement.{statement}

@@ -11,7 +11,8 @@ use mir.Syntax.{w64}
 use mir.Val.{toZ, ofZ}
 use mir.Facts.{toZ-ofZ}
 use Rattle.integers.specs.Near.{signed}
-use Rattle.trig.specs.Sine.{half-turn, full-turn, first-half, sine}
+use Rattle.units.specs.Units.{half-turn, full-turn}
+use Rattle.trig.specs.Sine.{first-half, sine}
 use Rattle.trig.proofs.Symmetry.{turn-low, turn-high, half-at-most}
 use Rattle.trig.proofs.sine.Statement.{statement}
 use Rattle.trig.proofs.sine.Tie as tie

@@ -1,8 +1,8 @@
 -- `line::answer` meets its contract. Assumes nothing.
 use mathlib.Core.Path.{ap, _∙_}
 use native.Mathlib.Omega.{arith}
-use Rattle.ellipsoid.specs.ParameterSet.{setRefusal}
-use Rattle.ellipsoid.specs.Derived.{constantsOf}
+use Rattle.parameters.specs.ParameterSet.{setRefusal}
+use Rattle.constants.specs.Derived.{constantsOf}
 use Rattle.lines.proofs.Answers.{etrs-accepted}
 use borrow.Author.Needs.{needs}
 use Rattle.lines.proofs.line.answer.Statement.{statement}

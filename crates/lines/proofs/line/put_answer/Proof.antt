@@ -3,8 +3,8 @@ use mathlib.Core.Path.{_≡_, sym, ap, _∙_}
 use native.Mathlib.Omega.{arith}
 use lib.ListN.{length}
 use mir.Facts.{toZ-ofZ}
-use Rattle.ellipsoid.specs.ParameterSet.{setRefusal}
-use Rattle.ellipsoid.specs.Derived.{constantsOf}
+use Rattle.parameters.specs.ParameterSet.{setRefusal}
+use Rattle.constants.specs.Derived.{constantsOf}
 use Rattle.lines.specs.Lines.{requestText, planeText, positionText}
 use Rattle.lines.proofs.Writing.{as-text}
 use Rattle.lines.proofs.Answers.{etrs-accepted, forward-answer, inverse-answer}

@@ -3,9 +3,9 @@ use mathlib.Core.Path.{_≡_, refl, sym, ap, ap₂, _∙_}
 use native.Mathlib.Omega.{arith}
 use lib.IntN.{ℤ}
 use mir.Facts.{toZ-ofZ}
-use Rattle.ellipsoid.specs.declared.latitude.Geodetic.{Geodetic}
-use Rattle.projection.specs.declared.inverse.GeodeticAnswer.{GeodeticAnswer}
-use Rattle.projection.specs.declared.inverse.GeodeticAnswer.the-variants.{Position}
+use Rattle.latitudes.specs.declared.Geodetic.{Geodetic}
+use Rattle.azimuthal_inverse.specs.declared.GeodeticAnswer.{GeodeticAnswer}
+use Rattle.azimuthal_inverse.specs.declared.GeodeticAnswer.the-variants.{Position}
 use Rattle.lines.specs.Lines.{positionText}
 use Rattle.lines.proofs.Writing.{as-text, room-as}
 use Rattle.lines.proofs.Answers.{refusal-is}

@@ -3,7 +3,7 @@ use borrow.Author.Needs.{needs}
 use mathlib.Core.Path.{_≡_, sym, _∙_}
 use lib.ListN.{length}
 use denote.Ref.{now}
-use Rattle.ellipsoid.specs.ParameterSet.{setRefusal}
+use Rattle.parameters.specs.ParameterSet.{setRefusal}
 use Rattle.points.specs.Lists.{lengthRefusal}
 use Rattle.points.proofs.ListedLaws.{equal-lengths, refused-by-lengths, refused-by-set, listed-refused, listed-count}
 use Rattle.points.proofs.lists.list.Statement.{statement}

@@ -3,7 +3,7 @@ use borrow.Author.Needs.{needs}
 use mathlib.Core.Path.{_≡_, sym, ap, _∙_}
 use mathlib.Core.Bool.{Bool, true, false}
 use lib.Ieee.{Float}
-use Rattle.ellipsoid.specs.declared.parameters.Parameters.{Parameters}
+use Rattle.parameters.specs.declared.Parameters.{Parameters}
 use Rattle.points.specs.declared.pairs.Marked.{Marked}
 use Rattle.points.specs.Points.{forwardPair, inversePair}
 use Rattle.points.specs.Told.{plane-marked, geodetic-marked}

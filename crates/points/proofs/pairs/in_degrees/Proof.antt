@@ -3,7 +3,8 @@ use borrow.Author.Needs.{needs}
 use mathlib.Core.Path.{_≡_, sym, ap, _∙_}
 use lib.Ieee.{Float}
 use mir.Facts.{toZ-ofZ}
-use Rattle.floats.specs.Units.{degree, floatOf}
+use Rattle.units.specs.Units.{degree}
+use Rattle.floats.specs.Conversion.{floatOf}
 use Rattle.points.specs.Points.{inDegrees}
 use Rattle.points.specs.declared.pairs.GeodeticPairAnswer.the-variants.{Degrees}
 use Rattle.points.proofs.pairs.in_degrees.Statement.{statement}

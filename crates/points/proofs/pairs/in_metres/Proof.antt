@@ -3,7 +3,8 @@ use borrow.Author.Needs.{needs}
 use mathlib.Core.Path.{_≡_, sym, ap, _∙_}
 use lib.Ieee.{Float}
 use mir.Facts.{toZ-ofZ}
-use Rattle.floats.specs.Units.{metre, floatOf}
+use Rattle.units.specs.Units.{metre}
+use Rattle.floats.specs.Conversion.{floatOf}
 use Rattle.points.specs.Points.{inMetres}
 use Rattle.points.specs.declared.pairs.PlanePairAnswer.the-variants.{Metres}
 use Rattle.points.proofs.pairs.in_metres.Statement.{statement}

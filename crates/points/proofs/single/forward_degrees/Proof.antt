@@ -1,7 +1,7 @@
 -- `single::forward_degrees` meets its contract. Assumes nothing.
 use borrow.Author.Needs.{needs}
 use mathlib.Core.Path.{_≡_, sym, ap, _∙_}
-use Rattle.ellipsoid.specs.declared.parameters.Parameters.{Parameters}
+use Rattle.parameters.specs.declared.Parameters.{Parameters}
 use Rattle.points.specs.declared.pairs.GeodeticPair.{GeodeticPair}
 use Rattle.points.specs.declared.pairs.PlanePairAnswer.{PlanePairAnswer}
 use Rattle.points.specs.declared.pairs.PlanePairAnswer.the-variants.{Refused}

@@ -7,10 +7,11 @@ use lib.IntN.{ℤ}
 use Rattle.proof_kit.proofs.Range.{returned}
 use Rattle.floats.specs.Limits.{within, latitudeLimit, longitudeLimit}
 use Rattle.floats.proofs.Coordinates.{latitude-is-longitude}
-use Rattle.ellipsoid.specs.declared.latitude.Geodetic.{Geodetic}
-use Rattle.projection.specs.ForwardSteps.{forwardOf, forwardPoint}
-use Rattle.ellipsoid.proofs.AcceptedSet.{both}
-use Rattle.projection.proofs.ForwardLaws.{forward-of-accepted}
+use Rattle.latitudes.specs.declared.Geodetic.{Geodetic}
+use Rattle.azimuthal_forward.specs.Answer.{forwardOf}
+use Rattle.azimuthal_forward.specs.Steps.{forwardPoint}
+use Rattle.integers.proofs.Greatest.{both}
+use Rattle.azimuthal_forward.proofs.ForwardLaws.{forward-of-accepted}
 use Rattle.points.specs.declared.pairs.PlanePairAnswer.the-variants.{Refused}
 use Rattle.points.specs.Points.{forwardPair, onGlobe, latitudeMas, longitudeMas, inMetres}
 use Rattle.points.proofs.PairLaws.{not-finite, beyond-limits, tests-passed}

@@ -1,7 +1,7 @@
 -- `single::inverse_metres` meets its contract. Assumes nothing.
 use borrow.Author.Needs.{needs}
 use mathlib.Core.Path.{_≡_, sym, ap, _∙_}
-use Rattle.ellipsoid.specs.declared.parameters.Parameters.{Parameters}
+use Rattle.parameters.specs.declared.Parameters.{Parameters}
 use Rattle.points.specs.declared.pairs.PlanePair.{PlanePair}
 use Rattle.points.specs.declared.pairs.GeodeticPairAnswer.{GeodeticPairAnswer}
 use Rattle.points.specs.declared.pairs.GeodeticPairAnswer.the-variants.{Refused as NotFound}

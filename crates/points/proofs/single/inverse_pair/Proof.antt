@@ -5,9 +5,10 @@ use mathlib.Core.Path.{_≡_, sym, ap, ap₂, _∙_}
 use mathlib.Core.Bool.{true}
 use Rattle.proof_kit.proofs.Range.{returned}
 use Rattle.floats.specs.Limits.{within, planeLimit}
-use Rattle.projection.specs.InverseSteps.{inverseOf, inversePoint}
-use Rattle.ellipsoid.proofs.AcceptedSet.{both}
-use Rattle.projection.proofs.InverseLaws.{inverse-of-accepted}
+use Rattle.azimuthal_inverse.specs.Answer.{inverseOf}
+use Rattle.azimuthal_inverse.specs.Steps.{inversePoint}
+use Rattle.integers.proofs.Greatest.{both}
+use Rattle.azimuthal_inverse.proofs.InverseLaws.{inverse-of-accepted}
 use Rattle.points.specs.declared.pairs.GeodeticPairAnswer.the-variants.{Refused as NotFound}
 use Rattle.points.specs.Points.{inversePair, onPlane, eastingCm, northingCm, inDegrees}
 use Rattle.points.proofs.PairLaws.{not-finite, beyond-limits, tests-passed}

@@ -3,8 +3,8 @@ use borrow.Author.Needs.{needs}
 use mathlib.Core.Path.{_≡_}
 use lib.Dec.{lit<}
 use Rattle.proof_kit.proofs.Range.{kept}
-use Rattle.ellipsoid.specs.ParameterSet.{setRefusal}
-use Rattle.projection.proofs.ConstantsLaws.{sound-as}
+use Rattle.parameters.specs.ParameterSet.{setRefusal}
+use Rattle.constants.proofs.ConstantsLaws.{sound-as}
 use Rattle.vectors.proofs.reverse_series.engine.Statement.{statement}
 use Rattle.vectors.proofs.reverse_series.engine.Tie as tie
 

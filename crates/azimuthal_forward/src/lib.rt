@@ -1,0 +1,119 @@
+// From geodetic latitude and longitude to easting and northing, in whole units.
+use billionths::difference;
+use billionths::product;
+use billionths::sum;
+use constants::Constants;
+use constants::constants_of;
+use latitudes::Geodetic;
+use latitudes::to_authalic;
+use parameters::Parameters;
+use units::are_within;
+use integers::near;
+use integers::root;
+use trig::cosine;
+use trig::sine;
+ghost use mathlib.Core.Path.{_≡_};
+ghost use Prim.Native.Nat.{_≤_, _*_};
+ghost use lib.IntN.{ℤ, pos, natAbs, _+ℤ_, _*ℤ_};
+ghost use lib.Signed.{_≤ℤ_};
+ghost use Rattle.integers.specs.Near.{near as nearOf};
+ghost use Rattle.sine_table.specs.Table.{IsTable};
+ghost use Rattle.units.specs.Units.{right-angle, full-turn};
+ghost use Rattle.parameters.specs.ParameterSet.{setRefusal};
+ghost use Rattle.latitudes.specs.Latitude.{SmallSeries};
+ghost use Rattle.constants.specs.Derived.{constantsOf, BoundedCentre};
+ghost use Rattle.azimuthal_forward.specs.Steps.{H as scaleOf, directionOf, forwardPoint};
+ghost use Rattle.azimuthal_forward.specs.Answer.{on-globe, forwardOf, plane-told, forwardTold};
+
+// Easting and northing in cm, or the refusal number alone.
+pub enum PlaneAnswer {
+    Plane { easting: i64, northing: i64 },
+    Refused(u8),
+}
+
+// Where a position lies as seen from the centre: u, w and the nearness G of document 01.
+pub struct Direction {
+    pub u: i64,
+    pub w: i64,
+    pub g: i64,
+}
+
+// H = root(G·500,000,000)
+pub fn scale(g: i64) -> u64
+    requires { ⌜ (pos 0 ≤ℤ g) × (natAbs g ≤ 4_000_000_000) ⌝ }
+    ensures { λ r. ⌜ r ≡ scaleOf g ⌝ }
+{
+    root((g * 500000000) as u64)
+}
+
+// The direction of a latitude and a longitude difference d.
+pub fn direction_of(t: &[u32; 5401], k: Constants, lat: Geodetic, d: i64) -> Direction
+    requires { ⌜ IsTable (now t) × SmallSeries (k .series) × BoundedCentre k × (natAbs (lat .0) ≤ right-angle) × (natAbs d ≤ full-turn) ⌝ }
+    ensures { λ r. ⌜ r ≡ directionOf k (lat .0) d ⌝ }
+{
+    let series = k.series;
+    let s0 = k.s0;
+    let c0 = k.c0;
+    let beta = to_authalic(t, series, lat);
+    let b = beta.sine(t);
+    let c = beta.cosine(t);
+    let v = product(c, cosine(t, d));
+    Direction {
+        u: product(c, sine(t, d)),
+        w: difference(c0, b, s0, v),
+        g: 1000000000 + sum(s0, b, c0, v),
+    }
+}
+
+// Whether a position is within ±90° and ±180°.
+fn is_on_globe(lat: Geodetic, lon: i64) -> bool
+    ensures { λ r. ⌜ r ≡ on-globe lat lon ⌝ }
+{
+    are_within(-324000000, 324000000, lat.0, -648000000, 648000000, lon)
+}
+
+// A plane coordinate: the false one plus near(r·x/h).
+fn coordinate(origin: i64, r: i64, x: i64, h: u64) -> i64
+    requires { ⌜ (natAbs origin ≤ 1_000_000_000) × (natAbs r ≤ 1_080_000_000) × (natAbs x ≤ 2_000_000_000) × (100_000_000 ≤ h) × (h ≤ 1_500_000_000) ⌝ }
+    ensures { λ e. ⌜ e ≡ origin +ℤ nearOf (r *ℤ x) h ⌝ }
+{
+    origin + near(r * x, h)
+}
+
+// A position with an accepted set and its constants.
+pub fn forward_point(
+    t: &[u32; 5401],
+    p: Parameters,
+    k: Constants,
+    lat: Geodetic,
+    lon: i64,
+) -> PlaneAnswer
+    requires { ⌜ IsTable (now t) × (setRefusal p ≡ 0) × (k ≡ constantsOf p) ⌝ }
+    ensures { λ r. ⌜ r ≡ forwardPoint p lat lon ⌝ }
+{
+    if !is_on_globe(lat, lon) {
+        return PlaneAnswer::Refused(3);
+    }
+    let to = direction_of(t, k, lat, lon - p.lon0);
+    let g = to.g;
+    if g < 20000000 {
+        return PlaneAnswer::Refused(4);
+    }
+    let h = scale(g);
+    PlaneAnswer::Plane {
+        easting: coordinate(p.false_easting, k.rd, to.u, h),
+        northing: coordinate(p.false_northing, k.rn, to.w, h),
+    }
+}
+
+// Any set, any position: the customer's call.
+pub fn forward(p: Parameters, lat: Geodetic, lon: i64) -> PlaneAnswer
+    ensures { λ r. ⌜ (r ≡ forwardOf p lat lon) × (plane-told r ≡ forwardTold p lat lon) ⌝ }
+{
+    let refusal = p.refusal();
+    if refusal != 0 {
+        return PlaneAnswer::Refused(refusal);
+    }
+    let t = sine_table::table();
+    forward_point(&t, p, constants_of(&t, p), lat, lon)
+}

@@ -1,0 +1,3 @@
+pub mod AngleLaws
+pub mod InverseLaws
+pub mod AnswerLaws

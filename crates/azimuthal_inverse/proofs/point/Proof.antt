@@ -1,0 +1,145 @@
+-- `inverse::point` meets its contract: K from 0 to 1.98 U keeps every quantity at most 2 units in size, and every sum within 64 bits. Assumes nothing.
+use mathlib.Core.Path.{_≡_, ap, ap₂, _∙_}
+use Prim.Native.Nat.{ℕ, _≤_}
+use native.Mathlib.Nat.{le-trans}
+use native.Mathlib.Omega.{arith}
+use lib.Dec.{lit<, lit≤}
+use lib.IntN.{ℤ, pos, natAbs, _+ℤ_, _-ℤ_, _*ℤ_}
+use mir.Syntax.{w64}
+use mir.Val.{toZ}
+use mir.Facts.{toZ-pos}
+use Rattle.proof_kit.proofs.Range.{code, fits, read, kept}
+use Rattle.proof_kit.proofs.Order.{≤ℤ-trans, pos-≤ℤ}
+use Rattle.integers.specs.Near.{near}
+use Rattle.units.specs.Units.{unit}
+use Rattle.azimuthal_forward.specs.Steps.{H}
+use Rattle.azimuthal_inverse.specs.Steps.{G, up, level, zOf, fOf, pointOf}
+use Rattle.billionths.proofs.Calls.{back, back-is}
+use Rattle.azimuthal_inverse.proofs.InverseLaws.{G-least, G-most, up-size, H-small, level-size, point-sized}
+use Rattle.azimuthal_inverse.proofs.point.Statement.{statement}
+use Rattle.azimuthal_inverse.proofs.point.Tie as tie
+
+sub-scale : tie.Need-sub-scale
+sub-scale c = fits (search code depth 40 fits 20000) tt
+
+G-read : (K : ℤ) → natAbs K ≤ 1_980_000_000 → back (pos 2_000_000_000 -ℤ back K) ≡ G K
+unfolding G
+G-read K h = read (search code depth 40 fits 20000) tt
+
+scale-requires : tie.Need-scale-requires
+scale-requires c κs =
+    let start = c .before .before in
+    rw (G-read (start .args .k) (start .pre .4))
+    (≤ℤ-trans (pos-≤ℤ (lit≤ tt)) (G-least (start .args .k) (start .pre .3) (start .pre .4)), le-trans (G-most (start .args .k) (start .pre .3) (start .pre .4)) (lit≤ tt))
+
+scale-is : (c : tie.After-scale) → c .scale .result ≡ H (G (c .before .before .before .args .k))
+scale-is c = c .scale .ensures ∙ ap H (G-read (c .before .before .before .args .k) (c .before .before .before .pre .4))
+
+scale-small : (c : tie.After-scale) → c .scale .result ≤ 1_000_000_000
+scale-small c =
+    let start = c .before .before .before in
+    rw (scale-is c) (H-small (start .args .k) (start .pre .3) (start .pre .4))
+
+cast-h : tie.Need-cast-h
+cast-h c = record { sfits = omega (arith, scale-small c) }
+
+h-read : (c : tie.After-scale) → toZ w64 (c .scale .result) ≡ pos (H (G (c .before .before .before .args .k)))
+h-read c = toZ-pos w64 (omega (arith, scale-small c)) ∙ ap pos (scale-is c)
+
+h-small : (c : tie.After-scale) → natAbs (toZ w64 (c .scale .result)) ≤ 2_000_000_000
+h-small c =
+    let start = c .before .before .before in
+    rw (h-read c) (le-trans (H-small (start .args .k) (start .pre .3) (start .pre .4)) (lit≤ tt))
+
+sub-up : tie.Need-sub-up
+sub-up c = fits (search code depth 40 fits 20000) tt
+
+up-read : (K : ℤ) → natAbs K ≤ 1_980_000_000 → back (pos 1_000_000_000 -ℤ back K) ≡ up K
+unfolding up
+up-read K h = read (search code depth 40 fits 20000) tt
+
+-- a number read back keeps its size
+back-size : (z : ℤ) → natAbs z ≤ 2_000_000_000 → natAbs (back z) ≤ 2_000_000_000
+back-size z h = rw (kept z h (lit< tt)) h
+
+product-requires : tie.Need-product-requires
+product-requires c κs = (back-size (c .before .before .before .args .y) (c .before .before .before .pre .2), h-small c)
+
+-- north and east: one of the two, given by a product with H
+level-is : (r x X : ℤ) (h : ℤ) (K : ℤ) → r ≡ near (back x *ℤ h) unit → natAbs x ≤ 2_000_000_000 → h ≡ pos (H (G K)) → r ≡ level K x
+unfolding level
+level-is r x X h K e s f = e ∙ ap₂ (λ (a b : ℤ). near (a *ℤ b) unit) (kept x s (lit< tt)) f
+
+product-requires-2 : tie.Need-product-requires-2
+product-requires-2 c κs = (back-size (c .before .before .before .before .args .x) (c .before .before .before .before .pre .1), h-small (c .before))
+
+-- the four numbers that z and f are made of, as they are read back
+record Taken (c : tie.After-product2) : Type 0 where
+  pub up-is : back (pos 1_000_000_000 -ℤ back (c .before .before .before .before .before .args .k)) ≡ up (c .before .before .before .before .before .args .k)
+  pub north-is : back (c .before .product .result) ≡ level (c .before .before .before .before .before .args .k) (c .before .before .before .before .before .args .y)
+  pub s0-is : back (c .before .before .before .before .before .args .c .s0) ≡ c .before .before .before .before .before .args .c .s0
+  pub c0-is : back (c .before .before .before .before .before .args .c .c0) ≡ c .before .before .before .before .before .args .c .c0
+
+taken : (c : tie.After-product2) → Taken c
+taken c =
+    let start = c .before .before .before .before .before in
+    let K : ℤ = start .args .k in
+    let north = level-is (c .before .product .result) (start .args .y) (start .args .y) (toZ w64 (c .before .before .scale .result)) K (c .before .product .ensures) (start .pre .2) (h-read (c .before .before)) in
+    record {
+      up-is = up-read K (start .pre .4);
+      north-is = back-is north (level-size K (start .pre .3) (start .pre .4) (start .args .y) (start .pre .2)) (lit< tt);
+      s0-is = kept (start .args .c .s0) (start .pre .0 .s0-size) (lit< tt);
+      c0-is = kept (start .args .c .c0) (start .pre .0 .c0-size) (lit< tt);
+    }
+
+-- at most n is at most two units
+below-two : (r x : ℤ) {n : ℕ} → r ≡ x → natAbs x ≤ n → n ≤ 2_000_000_000 → natAbs r ≤ 2_000_000_000
+below-two r x e h l = rw e (le-trans h l)
+
+sum-requires : tie.Need-sum-requires
+sum-requires c κs =
+    let start = c .before .before .before .before .before in
+    let K : ℤ = start .args .k in
+    let t = taken c in (
+      below-two _ (up K) (t .up-is) (up-size K (start .pre .3) (start .pre .4)) (lit≤ tt),
+      below-two _ (start .args .c .s0) (t .s0-is) (start .pre .0 .s0-size) (lit≤ tt),
+      below-two _ (level K (start .args .y)) (t .north-is) (level-size K (start .pre .3) (start .pre .4) (start .args .y) (start .pre .2)) (lit≤ tt),
+      below-two _ (start .args .c .c0) (t .c0-is) (start .pre .0 .c0-size) (lit≤ tt),
+    )
+
+difference-requires : tie.Need-difference-requires
+difference-requires c κs =
+    let start = c .before .before .before .before .before .before in
+    let K : ℤ = start .args .k in
+    let t = taken (c .before) in (
+      below-two _ (up K) (t .up-is) (up-size K (start .pre .3) (start .pre .4)) (lit≤ tt),
+      below-two _ (start .args .c .c0) (t .c0-is) (start .pre .0 .c0-size) (lit≤ tt),
+      below-two _ (level K (start .args .y)) (t .north-is) (level-size K (start .pre .3) (start .pre .4) (start .args .y) (start .pre .2)) (lit≤ tt),
+      below-two _ (start .args .c .s0) (t .s0-is) (start .pre .0 .s0-size) (lit≤ tt),
+    )
+
+returns : tie.Need-returns
+unfolding pointOf zOf fOf
+returns c =
+    let start = c .before .before .before .before .before .before .before in
+    let K : ℤ = start .args .k in
+    let t = taken (c .before .before) in
+    let sized = point-sized K (start .pre .3) (start .pre .4) (start .args .c) (start .pre .0) (start .args .x) (start .args .y) (start .pre .1) (start .pre .2) in
+    let east = level-is (c .before .before .product2 .result) (start .args .x) (start .args .x) (toZ w64 (c .before .before .before .before .scale .result)) K (c .before .before .product2 .ensures) (start .pre .1) (h-read (c .before .before .before .before)) in
+    let z = c .before .sum .ensures ∙ ap₂ (λ (a b : ℤ). near (a +ℤ b) unit) (ap₂ _*ℤ_ (t .up-is) (t .s0-is)) (ap₂ _*ℤ_ (t .north-is) (t .c0-is)) in
+    let f = c .difference .ensures ∙ ap₂ (λ (a b : ℤ). near (a -ℤ b) unit) (ap₂ _*ℤ_ (t .up-is) (t .c0-is)) (ap₂ _*ℤ_ (t .north-is) (t .s0-is)) in
+    rw (back-is east (sized .east-size) (lit< tt), back-is z (sized .z-size) (lit< tt), back-is f (sized .f-size) (lit< tt))
+
+pub point-spec : {M : Type 1} → statement M
+point-spec =
+    tie.close
+    (tie.spec
+    sub-scale
+    scale-requires
+    cast-h
+    sub-up
+    product-requires
+    product-requires-2
+    sum-requires
+    difference-requires
+    returns)

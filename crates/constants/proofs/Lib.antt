@@ -1,0 +1,3 @@
+pub mod SeriesLaws
+pub mod ScaleLaws
+pub mod ConstantsLaws

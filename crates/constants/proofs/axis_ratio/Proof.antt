@@ -1,0 +1,100 @@
+-- `constants::axis_ratio` meets its contract: at a pole D is U; elsewhere φ0 is at most 85° from the Equator, and there the divisor is above 0. Assumes nothing.
+use borrow.Author.Needs.{needs}
+use mathlib.Core.Path.{_≡_, sym, ap, _∙_}
+use mathlib.Core.Bool.{false}
+use Prim.Native.Nat.{_≤_}
+use native.Mathlib.Omega.{arith}
+use lib.Dec.{lit<}
+use lib.IntN.{ℤ, natAbs, _*ℤ_}
+use Rattle.proof_kit.proofs.Range.{kept, returned}
+use Rattle.integers.specs.Near.{near}
+use Rattle.units.specs.Units.{unit}
+use Rattle.parameters.specs.ParameterSet.{polar}
+use Rattle.constants.specs.Derived.{J, C0, m, D}
+use Rattle.constants.proofs.SeriesLaws.{at-least, J-high}
+use Rattle.parameters.proofs.AcceptedSet.{lat0-size}
+use Rattle.constants.proofs.ScaleLaws.{C0-size, m-size, j-between, oblique}
+use Rattle.billionths.proofs.Calls.{back, back-is, product-is, quotient-is}
+use Rattle.constants.proofs.axis_ratio.Statement.{statement}
+use Rattle.constants.proofs.axis_ratio.Tie as tie
+
+-- the parameters, read back
+e2-is : (c : tie.Start) → back (c .args .e2) ≡ c .args .e2
+e2-is c = kept (c .args .e2) (c .pre .1) (lit< tt)
+
+j-is : (c : tie.Start) → back (c .args .j) ≡ J (c .args .e2)
+j-is c = back-is (c .pre .3) (J-high (c .args .e2) (c .pre .1)) (lit< tt)
+
+c0-is : (c : tie.Start) → back (c .args .c0) ≡ C0 (c .args .e2) (c .args .lat0 .0)
+c0-is c = back-is (c .pre .4) (C0-size (c .args .e2) (c .args .lat0 .0)) (lit< tt)
+
+-- ---- the test
+
+is-pole-requires : tie.Need-is-pole-requires
+is-pole-requires c κs = search needs
+
+polar-is : (c : tie.After-is-pole) → polar (c .before .before .args .lat0 .0) ≡ c .is-pole .result
+polar-is c =
+    let start = c .before .before in
+    sym (c .is-pole .ensures ∙ ap polar (kept (start .args .lat0 .0) (lat0-size (start .args .lat0 .0) (start .pre .2)) (lit< tt)))
+
+returns : tie.Need-returns
+unfolding D
+returns c = rw (polar-is (c .before) ∙ c .if1 .taken)
+
+-- ---- elsewhere
+
+not-polar : (c : tie.Else1) → polar (c .before .before .before .args .lat0 .0) ≡ false
+not-polar c = polar-is (c .before) ∙ c .if1 .left
+
+latitude : (c : tie.Else1) → natAbs (c .before .before .before .args .lat0 .0) ≤ 306_000_000
+latitude c =
+    let start = c .before .before .before in
+    oblique (start .args .lat0 .0) (start .pre .2) (not-polar c)
+
+parallel-ratio-requires : tie.Need-parallel-ratio-requires
+parallel-ratio-requires c κs =
+    let start = c .before .before .before in
+    (start .pre .0, rw (e2-is start) (start .pre .1), lat0-size (start .args .lat0 .0) (start .pre .2))
+
+m-is : (c : tie.After-parallel-ratio) → back (c .parallel-ratio .result) ≡ m (c .before .before .before .before .args .e2) (c .before .before .before .before .args .lat0 .0)
+m-is c =
+    let start = c .before .before .before .before in
+    returned (c .parallel-ratio .ok) ∙ c .parallel-ratio .ensures ∙ ap (λ (e2 : ℤ). m e2 (start .args .lat0 .0)) (e2-is start)
+
+product-requires : tie.Need-product-requires
+product-requires c κs =
+    let start = c .before .before .before .before in
+    rw (j-is start, c0-is start)
+    (omega (arith, J-high (start .args .e2) (start .pre .1)), omega (arith, C0-size (start .args .e2) (start .args .lat0 .0)))
+
+divisor-is : (c : tie.After-product) → back (c .product .result) ≡ near (J (c .before .before .before .before .before .args .e2) *ℤ C0 (c .before .before .before .before .before .args .e2) (c .before .before .before .before .before .args .lat0 .0)) unit
+divisor-is c =
+    let start = c .before .before .before .before .before in
+    product-is (c .product .ok) (c .product .ensures) (j-is start) (c0-is start)
+
+quotient-requires : tie.Need-quotient-requires
+quotient-requires c κs =
+    let start = c .before .before .before .before .before in
+    let e2 : ℤ = start .args .e2 in
+    let φ0 : ℤ = start .args .lat0 .0 in
+    let far : natAbs φ0 ≤ 306_000_000 = latitude (c .before .before) in
+    let j = j-between e2 φ0 (start .pre .1) far in
+    rw (m-is (c .before), divisor-is c) (omega (arith, m-size e2 φ0 (start .pre .1) far), at-least 1 (j .natural) (omega arith), omega arith)
+
+returns-2 : tie.Need-returns-2
+unfolding D
+returns-2 c =
+    rw (not-polar (c .before .before .before))
+    (quotient-is (c .quotient .ok) (c .quotient .ensures) (m-is (c .before .before)) (divisor-is (c .before)))
+
+pub axis-ratio-spec : {M : Type 1} → statement M
+axis-ratio-spec =
+    tie.close
+    (tie.spec
+    is-pole-requires
+    returns
+    parallel-ratio-requires
+    product-requires
+    quotient-requires
+    returns-2)

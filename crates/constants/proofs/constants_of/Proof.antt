@@ -1,0 +1,170 @@
+-- `constants::constants_of` meets its contract: each call gives the paper's number, and for an accepted set each is so small that the next call may take it, and D is above 0. Assumes nothing.
+use mathlib.Core.Path.{_≡_, ap, _∙_}
+use Prim.Native.Nat.{_≤_}
+use native.Mathlib.Omega.{arith}
+use lib.Dec.{lit<}
+use lib.IntN.{ℤ, natAbs}
+use Rattle.proof_kit.proofs.Range.{kept, returned}
+use Rattle.units.specs.Units.{right-angle}
+use Rattle.trig.specs.Sine.{sine, cosine}
+use Rattle.latitudes.specs.declared.AuthalicSeries.{AuthalicSeries}
+use Rattle.latitudes.specs.declared.Authalic.{Authalic}
+use Rattle.latitudes.proofs.AuthalicLaws.{betaMas}
+use Rattle.constants.specs.Derived.{e4, e6, J, seriesOf, β0, S0, C0, D, Rq, RD, RN, constantsOf}
+use Rattle.constants.proofs.SeriesLaws.{at-least, e4-size, J-high, series-small}
+use Rattle.parameters.proofs.AcceptedSet.{Accepted, accepted, lat0-size}
+use Rattle.units.proofs.Spans.{Between}
+use Rattle.constants.proofs.ScaleLaws.{β0-size, D-between, e2-small, Rq-between}
+use Rattle.billionths.proofs.Calls.{back, product-is, quotient-is}
+use Rattle.constants.proofs.constants_of.Statement.{statement}
+use Rattle.constants.proofs.constants_of.Tie as tie
+
+-- ---- the set
+
+set : (c : tie.Start) → Accepted (c .args .p)
+set c = accepted (c .args .p) (c .pre .1)
+
+e2-size : (c : tie.Start) → natAbs (c .args .p .e2) ≤ 10_000_000
+e2-size c = e2-small (c .args .p) (set c)
+
+e2-is : (c : tie.Start) → back (c .args .p .e2) ≡ c .args .p .e2
+e2-is c = kept (c .args .p .e2) (e2-size c) (lit< tt)
+
+a-is : (c : tie.Start) → back (c .args .p .a) ≡ c .args .p .a
+a-is c = kept (c .args .p .a) (set c .a-between .most) (lit< tt)
+
+φ0-size : (c : tie.Start) → natAbs (c .args .p .lat0 .0) ≤ right-angle
+φ0-size c = lat0-size (c .args .p .lat0 .0) (set c .lat0-accepted)
+
+-- ---- e4 and e6, for J and the series
+
+product-requires : tie.Need-product-requires
+product-requires c κs = let start = c .before .before in rw (e2-is start) (omega (arith, e2-size start))
+
+e4-is : (c : tie.After-product) → back (c .product .result) ≡ e4 (c .before .before .before .args .p .e2)
+unfolding e4
+e4-is c =
+    let start = c .before .before .before in
+    product-is (c .product .ok) (c .product .ensures) (e2-is start) (e2-is start)
+
+product-requires-2 : tie.Need-product-requires-2
+product-requires-2 c κs =
+    let start = c .before .before .before in
+    rw (e4-is c, e2-is start) (omega (arith, e4-size (start .args .p .e2) (e2-size start)), omega (arith, e2-size start))
+
+e6-is : (c : tie.After-product2) → back (c .product2 .result) ≡ e6 (c .before .before .before .before .args .p .e2)
+unfolding e6
+e6-is c = product-is (c .product2 .ok) (c .product2 .ensures) (e4-is (c .before)) (e2-is (c .before .before .before .before))
+
+radius-ratio-requires : tie.Need-radius-ratio-requires
+radius-ratio-requires c κs =
+    let start = c .before .before .before .before in
+    rw (e2-is start) (e2-size start, e4-is (c .before), e6-is c)
+
+j-is : (c : tie.After-radius-ratio) → back (c .radius-ratio .result) ≡ J (c .before .before .before .before .before .args .p .e2)
+j-is c = returned (c .radius-ratio .ok) ∙ c .radius-ratio .ensures ∙ ap J (e2-is (c .before .before .before .before .before))
+
+series-requires : tie.Need-series-requires
+series-requires c κs = radius-ratio-requires (c .before) κs
+
+series-is : (c : tie.After-series) → c .series .result ≡ seriesOf (c .before .before .before .before .before .before .args .p .e2)
+series-is c = c .series .ensures ∙ ap seriesOf (e2-is (c .before .before .before .before .before .before))
+
+-- ---- β0, S0 and C0
+
+to-authalic-requires : tie.Need-to-authalic-requires
+to-authalic-requires c κs =
+    let start = c .before .before .before .before .before .before in
+    (start .pre .0, rw (series-is c) (series-small (start .args .p .e2) (e2-size start)), φ0-size start)
+
+β0-is : (c : tie.After-to-authalic) → c .to-authalic .result .0 ≡ β0 (c .before .before .before .before .before .before .before .args .p .e2) (c .before .before .before .before .before .before .before .args .p .lat0 .0)
+unfolding β0
+β0-is c =
+    let start = c .before .before .before .before .before .before .before in
+    ap (λ (b : Authalic). b .0) (c .to-authalic .ensures) ∙ ap (λ (k : AuthalicSeries). betaMas k (start .args .p .lat0 .0)) (series-is (c .before))
+
+β0-within : (c : tie.After-to-authalic) → natAbs (c .to-authalic .result .0) ≤ right-angle
+β0-within c =
+    let start = c .before .before .before .before .before .before .before in
+    rw (β0-is c) (β0-size (start .args .p .e2) (start .args .p .lat0 .0) (e2-size start) (φ0-size start))
+
+cosine-requires : tie.Need-cosine-requires
+cosine-requires c κs = (c .before .before .before .before .before .before .before .pre .0, β0-within c)
+
+c0-is : (c : tie.After-cosine) → back (c .cosine .result) ≡ C0 (c .before .before .before .before .before .before .before .before .args .p .e2) (c .before .before .before .before .before .before .before .before .args .p .lat0 .0)
+unfolding C0
+c0-is c = returned (c .cosine .ok) ∙ c .cosine .ensures ∙ ap cosine (β0-is (c .before))
+
+-- ---- D and Rq
+
+axis-ratio-requires : tie.Need-axis-ratio-requires
+axis-ratio-requires c κs =
+    let start = c .before .before .before .before .before .before .before .before in
+    rw (e2-is start) (start .pre .0, e2-size start, set start .lat0-accepted, j-is (c .before .before .before), c0-is c)
+
+d-is : (c : tie.After-axis-ratio) → back (c .axis-ratio .result) ≡ D (c .before .before .before .before .before .before .before .before .before .args .p .e2) (c .before .before .before .before .before .before .before .before .before .args .p .lat0 .0)
+d-is c =
+    let start = c .before .before .before .before .before .before .before .before .before in
+    returned (c .axis-ratio .ok) ∙ c .axis-ratio .ensures ∙ ap (λ (e2 : ℤ). D e2 (start .args .p .lat0 .0)) (e2-is start)
+
+d-between : (c : tie.Start) → Between (D (c .args .p .e2) (c .args .p .lat0 .0)) 930_000_000 1_070_000_000
+d-between c = D-between (c .args .p .e2) (c .args .p .lat0 .0) (e2-size c) (set c .lat0-accepted)
+
+product-requires-3 : tie.Need-product-requires-3
+product-requires-3 c κs =
+    let start = c .before .before .before .before .before .before .before .before .before .before in
+    rw (a-is start, j-is (c .before .before .before .before .before)) (omega (arith, set start .a-between .most), omega (arith, J-high (start .args .p .e2) (e2-size start)))
+
+rq-is : (c : tie.After-product3) → back (c .product3 .result) ≡ Rq (c .before .before .before .before .before .before .before .before .before .before .before .args .p)
+unfolding Rq
+rq-is c = product-is (c .product3 .ok) (c .product3 .ensures) (a-is (c .before .before .before .before .before .before .before .before .before .before .before)) (j-is (c .before .before .before .before .before .before))
+
+-- ---- the fields
+
+sine-requires : tie.Need-sine-requires
+sine-requires c κs = (c .before .before .before .before .before .before .before .before .before .before .before .pre .0, β0-within (c .before .before .before .before))
+
+s0-is : (c : tie.After-sine) → back (c .sine .result) ≡ S0 (c .before .before .before .before .before .before .before .before .before .before .before .before .args .p .e2) (c .before .before .before .before .before .before .before .before .before .before .before .before .args .p .lat0 .0)
+unfolding S0
+s0-is c = returned (c .sine .ok) ∙ c .sine .ensures ∙ ap sine (β0-is (c .before .before .before .before .before))
+
+product-requires-4 : tie.Need-product-requires-4
+product-requires-4 c κs =
+    let start = c .before .before .before .before .before .before .before .before .before .before .before .before in
+    rw (rq-is (c .before), d-is (c .before .before .before)) (omega (arith, Rq-between (start .args .p) (set start) .most), omega (arith, d-between start .most))
+
+rd-is : (c : tie.After-product4) → back (c .product4 .result) ≡ RD (c .before .before .before .before .before .before .before .before .before .before .before .before .before .args .p)
+unfolding RD
+rd-is c = product-is (c .product4 .ok) (c .product4 .ensures) (rq-is (c .before .before)) (d-is (c .before .before .before .before))
+
+quotient-requires : tie.Need-quotient-requires
+quotient-requires c κs =
+    let start = c .before .before .before .before .before .before .before .before .before .before .before .before .before in
+    let d = d-between start in
+    rw (rq-is (c .before .before), d-is (c .before .before .before .before)) (omega (arith, Rq-between (start .args .p) (set start) .most), at-least 1 (d .natural) (omega arith), omega arith)
+
+rn-is : (c : tie.After-quotient) → back (c .quotient .result) ≡ RN (c .before .before .before .before .before .before .before .before .before .before .before .before .before .before .args .p)
+unfolding RN
+rn-is c = quotient-is (c .quotient .ok) (c .quotient .ensures) (rq-is (c .before .before .before)) (d-is (c .before .before .before .before .before))
+
+returns : tie.Need-returns
+unfolding constantsOf
+returns c =
+    rw (series-is (c .before .before .before .before .before .before .before .before), s0-is (c .before .before), c0-is (c .before .before .before .before .before .before), rd-is (c .before), rn-is c)
+
+pub constants-of-spec : {M : Type 1} → statement M
+constants-of-spec =
+    tie.close
+    (tie.spec
+    product-requires
+    product-requires-2
+    radius-ratio-requires
+    series-requires
+    to-authalic-requires
+    cosine-requires
+    axis-ratio-requires
+    product-requires-3
+    sine-requires
+    product-requires-4
+    quotient-requires
+    returns)

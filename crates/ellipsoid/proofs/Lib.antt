@@ -1,6 +1,0 @@
-pub mod Calls
-pub mod AuthalicLaws
-pub mod GeodeticLaws
-pub mod SeriesLaws
-pub mod AcceptedSet
-pub mod ScaleLaws

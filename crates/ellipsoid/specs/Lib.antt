@@ -1,3 +1,0 @@
-pub mod ParameterSet
-pub mod Latitude
-pub mod Derived

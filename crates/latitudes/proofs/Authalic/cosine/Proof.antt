@@ -1,0 +1,19 @@
+-- `latitude::Authalic::cosine` meets its contract. Assumes nothing.
+use mathlib.Core.Path.{ap, _∙_}
+use native.Mathlib.Omega.{arith}
+use lib.Dec.{lit<}
+use Rattle.proof_kit.proofs.Range.{kept, returned}
+use Rattle.trig.specs.Sine.{cosine as cosineOf}
+use Rattle.latitudes.proofs.Authalic.cosine.Statement.{statement}
+use Rattle.latitudes.proofs.Authalic.cosine.Tie as tie
+
+cosine-requires : tie.Need-cosine-requires
+cosine-requires c κs = (c .before .pre .0, rw (kept (c .before .args .self .0) (c .before .pre .1) (lit< tt)) (omega (arith, c .before .pre .1)))
+
+returns : tie.Need-returns
+returns c =
+    let start = c .before .before in
+    returned (c .cosine .ok) ∙ c .cosine .ensures ∙ ap cosineOf (kept (start .args .self .0) (start .pre .1) (lit< tt))
+
+pub cosine-spec : {M : Type 1} → statement M
+cosine-spec = tie.close (tie.spec cosine-requires returns)

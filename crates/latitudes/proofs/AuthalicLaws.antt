@@ -1,0 +1,155 @@
+-- Laws of the authalic latitude β, for coefficients as small as those of every accepted set: odd, ±90° at ±90°, near φ, and never falling.
+-- Assumes nothing.
+use mathlib.Core.Path.{_≡_, ap, _∙_}
+use mathlib.Core.List.{[], _∷_}
+use Prim.Native.Nat.{ℕ, zero, suc, _+_, _*_, _<_, _≤_}
+use native.Mathlib.Omega.{arith}
+use lib.Dec.{lit<, lit≤}
+use lib.IntN.{ℤ, pos, negℤ, natAbs, _+ℤ_, _-ℤ_, _*ℤ_, +ℤ-idr}
+use lib.Signed.{_≤ℤ_, ≤ℤ-refl}
+use Rattle.proof_kit.proofs.Laws.{*ℤ-distribˡ, natAbs-parts, parts--}
+use Rattle.proof_kit.proofs.Ring.{ring, quote}
+use Rattle.proof_kit.proofs.Size.{as-size, abs-le, abs-by, abs-mul, sizes}
+use Rattle.proof_kit.proofs.Order.{order, le-by, le-of, pos-abs, abs-lower, abs-upper, abs-between}
+use Rattle.proof_kit.proofs.Certificate.{nonneg-gap}
+use Rattle.integers.specs.Near.{near}
+use Rattle.integers.proofs.Rounding.{near-odd, near-zero, near-at-most, near-apart}
+use Rattle.units.specs.Units.{unit, right-angle, half-turn}
+use Rattle.trig.specs.Sine.{sine}
+use Rattle.trig.proofs.Interface.{sine-odd, sine-size, sine-change, sine-zero, sine-half-turn}
+use Rattle.latitudes.specs.declared.AuthalicSeries.{AuthalicSeries}
+use Rattle.latitudes.specs.Latitude.{terms, rounded, SmallSeries}
+use Rattle.latitudes.proofs.AuthalicLaws.{betaMas}
+
+some : 0 < unit
+some = lit< tt
+
+-- ---- odd
+
+double-neg : (m φ : ℤ) → m *ℤ negℤ φ ≡ negℤ (m *ℤ φ)
+double-neg m φ = ring (m ∷ φ ∷ []) (search quote depth 40 fits 20000) tt
+
+sine-multiple : (m φ : ℤ) → sine (m *ℤ negℤ φ) ≡ negℤ (sine (m *ℤ φ))
+sine-multiple m φ = ap sine (double-neg m φ) ∙ sine-odd (m *ℤ φ)
+
+terms-odd : (k : AuthalicSeries) (φ : ℤ) → terms k (negℤ φ) ≡ negℤ (terms k φ)
+unfolding terms
+terms-odd k φ =
+    rw (sine-multiple (pos 2) φ, sine-multiple (pos 4) φ, sine-multiple (pos 6) φ)
+    (turned (k .k2) (sine (pos 2 *ℤ φ)) (k .k4) (sine (pos 4 *ℤ φ)) (k .k6) (sine (pos 6 *ℤ φ)))
+  where
+    turned : (a x b y c z : ℤ) → a *ℤ negℤ x -ℤ b *ℤ negℤ y +ℤ c *ℤ negℤ z ≡ negℤ (a *ℤ x -ℤ b *ℤ y +ℤ c *ℤ z)
+    turned a x b y c z = ring (a ∷ x ∷ b ∷ y ∷ c ∷ z ∷ []) (search quote depth 40 fits 20000) tt
+
+pub beta-odd : (k : AuthalicSeries) (φ : ℤ) → betaMas k (negℤ φ) ≡ negℤ (betaMas k φ)
+unfolding betaMas rounded
+beta-odd k φ =
+    rw (terms-odd k φ, near-odd (terms k φ) unit some) (turned φ (near (terms k φ) unit))
+  where
+    turned : (x y : ℤ) → negℤ x -ℤ negℤ y ≡ negℤ (x -ℤ y)
+    turned x y = ring (x ∷ y ∷ []) (search quote depth 40 fits 20000) tt
+
+-- ---- at the poles
+
+-- 2, 4 and 6 times 90° are whole half turns
+half-turns : (sine (pos half-turn) ≡ pos 0) × (sine (pos (half-turn + half-turn)) ≡ pos 0) × (sine (pos (half-turn + half-turn + half-turn)) ≡ pos 0)
+half-turns =
+    let one = sine-half-turn (pos 0) ∙ ap negℤ sine-zero in
+    let two = sine-half-turn (pos half-turn) ∙ ap negℤ one in
+    (one, two, sine-half-turn (pos (half-turn + half-turn)) ∙ ap negℤ two)
+
+terms-pole : (k : AuthalicSeries) → terms k (pos right-angle) ≡ pos 0
+unfolding terms
+terms-pole k =
+    rw (half-turns .0, half-turns .1, half-turns .2) (none (k .k2) (k .k4) (k .k6))
+  where
+    none : (a b c : ℤ) → a *ℤ pos 0 -ℤ b *ℤ pos 0 +ℤ c *ℤ pos 0 ≡ pos 0
+    none a b c = ring (a ∷ b ∷ c ∷ []) (search quote depth 40 fits 20000) tt
+
+pub beta-north-pole : (k : AuthalicSeries) → betaMas k (pos right-angle) ≡ pos right-angle
+unfolding betaMas rounded
+beta-north-pole k = rw (terms-pole k, near-zero unit some)
+
+pub beta-south-pole : (k : AuthalicSeries) → betaMas k (negℤ (pos right-angle)) ≡ negℤ (pos right-angle)
+beta-south-pole k = beta-odd k (pos right-angle) ∙ ap negℤ (beta-north-pole k)
+
+-- ---- β is near φ
+
+terms-size : (k : AuthalicSeries) → SmallSeries k → (φ : ℤ) → natAbs (terms k φ) ≤ 692_510 * unit
+unfolding terms
+terms-size k small φ =
+    sum (k .k2) (sine (pos 2 *ℤ φ)) (k .k4) (sine (pos 4 *ℤ φ)) (k .k6) (sine (pos 6 *ℤ φ))
+    (small .k2-size) (sine-size (pos 2 *ℤ φ)) (small .k4-size) (sine-size (pos 4 *ℤ φ)) (small .k6-size) (sine-size (pos 6 *ℤ φ))
+  where
+    sum : (a x b y c z : ℤ) → natAbs a ≤ 691_500 → natAbs x ≤ unit → natAbs b ≤ 1_000 → natAbs y ≤ unit → natAbs c ≤ 10 → natAbs z ≤ unit → natAbs (a *ℤ x -ℤ b *ℤ y +ℤ c *ℤ z) ≤ 692_510 * unit
+    sum a x b y c z ha hx hb hy hc hz = rw as-size (abs-le (search sizes depth 40 fits 20000) (lit≤ tt))
+
+pub rounded-size : (k : AuthalicSeries) → SmallSeries k → (φ : ℤ) → natAbs (rounded k φ) ≤ 692_510
+unfolding rounded
+rounded-size k small φ = near-at-most (terms k φ) unit 692_510 some (terms-size k small φ)
+
+-- ---- never falling
+
+-- the sine of a multiple of φ changes by at most 5 for each mas of the multiple
+multiple-change : (m n : ℕ) (φ : ℤ) → natAbs (sine (pos m *ℤ (φ +ℤ pos n)) -ℤ sine (pos m *ℤ φ)) ≤ 5 * (m * n)
+multiple-change m n φ = rw (*ℤ-distribˡ (pos m) φ (pos n)) (sine-change (m * n) (pos m *ℤ φ))
+
+terms-change : (k : AuthalicSeries) → SmallSeries k → (n : ℕ) (φ : ℤ) → natAbs (terms k (φ +ℤ pos n) -ℤ terms k φ) ≤ n * 7_000_000
+unfolding terms
+terms-change k small n φ =
+    sum (k .k2) (sine (pos 2 *ℤ (φ +ℤ pos n))) (sine (pos 2 *ℤ φ)) (k .k4) (sine (pos 4 *ℤ (φ +ℤ pos n))) (sine (pos 4 *ℤ φ)) (k .k6) (sine (pos 6 *ℤ (φ +ℤ pos n))) (sine (pos 6 *ℤ φ))
+    (small .k2-size) (multiple-change 2 n φ) (small .k4-size) (multiple-change 4 n φ) (small .k6-size) (multiple-change 6 n φ)
+  where
+    split : (a x x′ b y y′ c z z′ : ℤ) → (a *ℤ x -ℤ b *ℤ y +ℤ c *ℤ z) -ℤ (a *ℤ x′ -ℤ b *ℤ y′ +ℤ c *ℤ z′) ≡ a *ℤ (x -ℤ x′) -ℤ b *ℤ (y -ℤ y′) +ℤ c *ℤ (z -ℤ z′)
+    split a x x′ b y y′ c z z′ = ring (a ∷ x ∷ x′ ∷ b ∷ y ∷ y′ ∷ c ∷ z ∷ z′ ∷ []) (search quote depth 40 fits 20000) tt
+
+    sum :
+        (a x x′ b y y′ c z z′ : ℤ) →
+        natAbs a ≤ 691_500 →
+        natAbs (x -ℤ x′) ≤ 5 * (2 * n) →
+        natAbs b ≤ 1_000 →
+        natAbs (y -ℤ y′) ≤ 5 * (4 * n) →
+        natAbs c ≤ 10 →
+        natAbs (z -ℤ z′) ≤ 5 * (6 * n) →
+        natAbs ((a *ℤ x -ℤ b *ℤ y +ℤ c *ℤ z) -ℤ (a *ℤ x′ -ℤ b *ℤ y′ +ℤ c *ℤ z′)) ≤ n * 7_000_000
+    sum a x x′ b y y′ c z z′ ha hx hb hy hc hz =
+        abs-by (split a x x′ b y y′ c z z′) (search sizes depth 40 fits 20000) (omega arith)
+
+-- n mas of φ are at least 0.993·n − 1 mas of β
+pub beta-slope :
+    (k : AuthalicSeries) →
+    SmallSeries k →
+    (n : ℕ) (φ : ℤ) →
+    (pos 993 *ℤ pos n -ℤ pos 1000) ≤ℤ (pos 1000 *ℤ (betaMas k (φ +ℤ pos n) -ℤ betaMas k φ))
+unfolding betaMas rounded
+beta-slope k small n φ =
+    falls-short (near (terms k (φ +ℤ pos n)) unit) (near (terms k φ) unit)
+    (omega (arith, abs-mul (pos unit) (near (terms k (φ +ℤ pos n)) unit -ℤ near (terms k φ) unit), near-apart (terms k (φ +ℤ pos n)) (terms k φ) unit some, terms-change k small n φ))
+  where
+    falls-short :
+        (x y : ℤ) →
+        1000 * natAbs (x -ℤ y) ≤ 7 * n + 1000 →
+        (pos 993 *ℤ pos n -ℤ pos 1000) ≤ℤ (pos 1000 *ℤ ((φ +ℤ pos n -ℤ x) -ℤ (φ -ℤ y)))
+    falls-short x y h =
+        le-by (pos n ∷ φ ∷ x ∷ y ∷ []) (search quote depth 40 fits 20000) (omega (arith, natAbs-parts (x -ℤ y), parts-- x y))
+
+pub beta-mono : (k : AuthalicSeries) → SmallSeries k → (n : ℕ) (φ : ℤ) → betaMas k φ ≤ℤ betaMas k (φ +ℤ pos n)
+beta-mono k small zero φ = rw (+ℤ-idr φ) (≤ℤ-refl (betaMas k φ))
+beta-mono k small (suc n) φ = rises (betaMas k φ) (betaMas k (φ +ℤ pos (suc n))) (beta-slope k small (suc n) φ)
+  where
+    rises : (x y : ℤ) → (pos 993 *ℤ pos (suc n) -ℤ pos 1000) ≤ℤ (pos 1000 *ℤ (y -ℤ x)) → x ≤ℤ y
+    rises x y h =
+        omega (order, le-of (pos (suc n) ∷ x ∷ y ∷ []) (search quote depth 40 fits 20000) h)
+
+pub beta-≤ : (k : AuthalicSeries) → SmallSeries k → {φ ψ : ℤ} → φ ≤ℤ ψ → betaMas k φ ≤ℤ betaMas k ψ
+beta-≤ k small {φ} {ψ} h =
+    rw apart at (beta-mono k small (natAbs (ψ -ℤ φ)) φ)
+  where
+    apart : φ +ℤ pos (natAbs (ψ -ℤ φ)) ≡ ψ
+    apart = ap (λ (x : ℤ). φ +ℤ x) (pos-abs (nonneg-gap h)) ∙ ring (φ ∷ ψ ∷ []) (search quote depth 40 fits 20000) tt
+
+pub beta-size : (k : AuthalicSeries) → SmallSeries k → (φ : ℤ) → natAbs φ ≤ right-angle → natAbs (betaMas k φ) ≤ right-angle
+beta-size k small φ h =
+    abs-between (betaMas k φ)
+    (rw (beta-south-pole k) at (beta-≤ k small (abs-lower φ h)))
+    (rw (beta-north-pole k) at (beta-≤ k small (abs-upper φ h)))

@@ -1,0 +1,2 @@
+pub mod AuthalicLaws
+pub mod GeodeticLaws

@@ -1,0 +1,40 @@
+-- `latitude::is_not_above` meets its contract. Assumes nothing.
+use borrow.Author.Needs.{needs}
+use mathlib.Core.Path.{_≡_, ap, ap₂, _∙_}
+use Prim.Native.Nat.{_≤_}
+use lib.Dec.{lit<}
+use lib.IntN.{ℤ, natAbs}
+use lib.Signed.{leZ}
+use Rattle.proof_kit.proofs.Range.{code, fits, kept}
+use mir.Syntax.{w64}
+use mir.Val.{toZ, ofZ}
+use Rattle.units.specs.Units.{right-angle}
+use Rattle.latitudes.specs.declared.Authalic.{Authalic}
+use Rattle.latitudes.proofs.AuthalicLaws.{beta-size, betaMas}
+use Rattle.latitudes.proofs.GeodeticLaws.{from-south-pole-size, counted}
+use Rattle.latitudes.specs.Latitude.{from-south-pole, not-above}
+use Rattle.latitudes.proofs.is_not_above.Statement.{statement}
+use Rattle.latitudes.proofs.is_not_above.Tie as tie
+
+cast-t6 : tie.Need-cast-t6
+cast-t6 c = search needs
+
+sub-t7 : tie.Need-sub-t7
+sub-t7 c = fits (search code depth 40 fits 20000) tt
+
+to-authalic-requires : tie.Need-to-authalic-requires
+to-authalic-requires c κs = (c .pre .0, c .pre .1, rw (counted (c .args .n) (c .pre .3)) (from-south-pole-size (c .args .n) (c .pre .3)))
+
+returns : tie.Need-returns
+unfolding not-above
+returns c =
+    let start = c .before .before .before .before .before in
+    let n = start .args .n in
+    let found : c .before .before .before .before .to-authalic .result .0 ≡ betaMas (start .args .k) (from-south-pole n) = ap (λ (b : Authalic). b .0) (c .before .before .before .before .to-authalic .ensures) ∙ ap (betaMas (start .args .k)) (counted n (start .pre .3)) in
+    let size : natAbs (betaMas (start .args .k) (from-south-pole n)) ≤ right-angle = beta-size (start .args .k) (start .pre .1) (from-south-pole n) (from-south-pole-size n (start .pre .3)) in
+    ap₂ leZ
+    (ap (λ (x : ℤ). toZ w64 (ofZ w64 x)) found ∙ kept (betaMas (start .args .k) (from-south-pole n)) size (lit< tt))
+    (kept (start .args .beta .0) (start .pre .2) (lit< tt))
+
+pub is-not-above-spec : {M : Type 1} → statement M
+is-not-above-spec = tie.close (tie.spec cast-t6 sub-t7 to-authalic-requires returns)

@@ -1,0 +1,42 @@
+-- Document 01, "Authalic latitude (Snyder 3-14)", and the way back.
+use Prim.Native.Nat.{ℕ, _≤_}
+use mathlib.Core.Bool.{Bool}
+use lib.IntN.{ℤ, pos, natAbs, _+ℤ_, _-ℤ_, _*ℤ_}
+use lib.Signed.{leZ}
+use Rattle.integers.specs.Near.{near}
+use Rattle.integers.specs.Greatest.{greatest}
+use Rattle.units.specs.Units.{unit, right-angle, half-turn}
+use Rattle.trig.specs.Sine.{sine}
+use Rattle.latitudes.specs.declared.Geodetic.{Geodetic}
+use Rattle.latitudes.specs.declared.Authalic.{Authalic}
+use Rattle.latitudes.specs.declared.AuthalicSeries.{AuthalicSeries}
+
+abbrev pub coefficients : ℤ → ℤ → ℤ → AuthalicSeries
+coefficients k2 k4 k6 = record { k2 = k2; k4 = k4; k6 = k6 }
+
+-- "k2·sine(2φ) − k4·sine(4φ) + k6·sine(6φ)", in billionths of a mas
+unfoldable pub terms : AuthalicSeries → Geodetic → ℤ
+terms k φ = k .k2 *ℤ sine (pos 2 *ℤ φ .0) -ℤ k .k4 *ℤ sine (pos 4 *ℤ φ .0) +ℤ k .k6 *ℤ sine (pos 6 *ℤ φ .0)
+
+-- "β = φ − near((k2·sine(2φ) − k4·sine(4φ) + k6·sine(6φ))/U), one rounding"
+unfoldable pub rounded : AuthalicSeries → Geodetic → ℤ
+rounded k φ = near (terms k φ) unit
+
+unfoldable pub beta : AuthalicSeries → Geodetic → Authalic
+beta k φ = record { 0 = φ .0 -ℤ rounded k φ }
+
+-- "φ is the greatest latitude from −90° to 90° whose β is not above the one found": the latitudes are counted from −90°.
+unfoldable pub from-south-pole : ℕ → Geodetic
+from-south-pole n = record { 0 = pos n -ℤ pos right-angle }
+
+unfoldable pub not-above : AuthalicSeries → Authalic → ℕ → Bool
+not-above k β n = leZ (beta k (from-south-pole n) .0) (β .0)
+
+unfoldable pub geodetic : AuthalicSeries → Authalic → Geodetic
+geodetic k β = from-south-pole (greatest (not-above k β) half-turn)
+
+-- The coefficients of every accepted set are this small, which keeps the code within 64 bits.
+pub record Small (k : AuthalicSeries) : Type 0 where
+  pub k2-size : natAbs (k .k2) ≤ 691_500
+  pub k4-size : natAbs (k .k4) ≤ 1_000
+  pub k6-size : natAbs (k .k6) ≤ 10

@@ -1,0 +1,60 @@
+-- Document 01, "Parameter set and its constants": which sets are accepted, and ETRS-LAEA.
+-- The limits are those of the associated constants of `Parameters`: the proofs of `Parameters::refusal` and `Parameters::etrs_laea` hold the two together.
+use Prim.Native.Nat.{ℕ}
+use mathlib.Core.Bool.{Bool, _||_, _&&_}
+use lib.IntN.{ℤ, pos, negℤ}
+use lib.Signed.{ltZ, leZ}
+use Rattle.units.specs.Units.{right-angle, half-turn}
+use Rattle.units.specs.Spans.{within, same, inside}
+use Rattle.units.specs.Refusals.{bad-set, unless}
+use Rattle.latitudes.specs.declared.Geodetic.{Geodetic}
+use Rattle.parameters.specs.declared.Parameters.{Parameters}
+
+-- a row of the table for each field
+unfoldable pub accepted-a : ℤ → Bool
+accepted-a a = within (pos 100_000_000) (pos 1_000_000_000) a
+
+unfoldable pub accepted-e2 : ℤ → Bool
+accepted-e2 e2 = within (pos 0) (pos 10_000_000) e2
+
+-- "exactly ±324,000,000"
+unfoldable pub polar : Geodetic → Bool
+polar φ0 = same (φ0 .0) (pos right-angle) || same (φ0 .0) (negℤ (pos right-angle))
+
+-- "−306,000,000 to 306,000,000 (85°), or exactly ±324,000,000"
+unfoldable pub accepted-lat0 : Geodetic → Bool
+accepted-lat0 φ0 = inside 306_000_000 (φ0 .0) || polar φ0
+
+-- "above −648,000,000, at most 648,000,000"
+unfoldable pub accepted-lon0 : ℤ → Bool
+accepted-lon0 lon0 = ltZ (negℤ (pos half-turn)) lon0 && leZ lon0 (pos half-turn)
+
+-- FE and FN
+unfoldable pub accepted-false : ℤ → Bool
+accepted-false z = inside 1_000_000_000 z
+
+-- The refusal of the first field, in the table's order, that is not accepted; 0 is none.
+unfoldable pub firstRefusal : Bool → Bool → Bool → Bool → Bool → Bool → ℕ
+firstRefusal a e2 lat0 lon0 easting northing =
+    unless a bad-set
+    (unless e2 bad-set
+    (unless lat0 bad-set (unless lon0 bad-set (unless easting bad-set (unless northing bad-set 0)))))
+
+-- A set is accepted where its refusal is 0.
+unfoldable pub setRefusal : Parameters → ℕ
+setRefusal p =
+    firstRefusal (accepted-a (p .a)) (accepted-e2 (p .e2)) (accepted-lat0 (p .lat0)) (accepted-lon0 (p .lon0))
+    (accepted-false (p .«false_easting»))
+    (accepted-false (p .«false_northing»))
+
+-- "a 637,813,700; e2 6,694,380; φ0 187,200,000; lon0 36,000,000; FE 432,100,000; FN 321,000,000"
+abbrev pub etrsLaea : Parameters
+etrsLaea =
+    record {
+      a = pos 637_813_700;
+      e2 = pos 6_694_380;
+      lat0 = record { 0 = pos 187_200_000 };
+      lon0 = pos 36_000_000;
+      «false_easting» = pos 432_100_000;
+      «false_northing» = pos 321_000_000;
+    }

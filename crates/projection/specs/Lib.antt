@@ -1,3 +1,0 @@
-pub mod ForwardSteps
-pub mod InverseSteps
-pub mod Answers

@@ -1,0 +1,4 @@
+pub mod Units
+pub mod Spans
+pub mod Refusals
+pub mod Answers

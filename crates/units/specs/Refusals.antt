@@ -1,0 +1,37 @@
+-- Document 01, "Refusal numbers": the numbers by name, and chains of tests of which the first that fails gives its number.
+use Prim.Native.Nat.{ℕ, zero, suc}
+use mathlib.Core.Bool.{Bool, true, false}
+
+-- "parameter set outside its table"
+abbrev pub bad-set : ℕ
+bad-set = 1
+
+-- "a coordinate is NaN or infinite"
+abbrev pub not-finite : ℕ
+not-finite = 2
+
+-- "latitude beyond ±90° or longitude beyond ±180°; easting or northing beyond ±50,000,000 m"
+abbrev pub out-of-limits : ℕ
+out-of-limits = 3
+
+-- "too far from the centre, as in the steps"
+abbrev pub too-far : ℕ
+too-far = 4
+
+-- "lent lists of unequal length"
+abbrev pub unequal-lists : ℕ
+unequal-lists = 5
+
+-- "lists longer than 4,096"
+abbrev pub long-lists : ℕ
+long-lists = 6
+
+-- where the test fails, the refusal number; else what the next tests say
+abbrev pub unless : Bool → ℕ → ℕ → ℕ
+unless true number next = next
+unless false number next = number
+
+-- an earlier refusal, where there is one; 0 is none
+abbrev pub firstOf : ℕ → ℕ → ℕ
+firstOf zero next = next
+firstOf (suc n) next = suc n
