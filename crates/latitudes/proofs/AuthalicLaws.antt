@@ -17,12 +17,19 @@ use Rattle.integers.proofs.Rounding.{near-odd, near-zero, near-at-most, near-ap
 use Rattle.units.specs.Units.{unit, right-angle, half-turn}
 use Rattle.trig.specs.Sine.{sine}
 use Rattle.trig.proofs.Interface.{sine-odd, sine-size, sine-change, sine-zero, sine-half-turn}
+use Rattle.latitudes.specs.declared.Geodetic.{Geodetic}
 use Rattle.latitudes.specs.declared.AuthalicSeries.{AuthalicSeries}
-use Rattle.latitudes.specs.Latitude.{terms, rounded, SmallSeries}
-use Rattle.latitudes.proofs.AuthalicLaws.{betaMas}
+use Rattle.latitudes.specs.Latitude.{terms, rounded, beta, SmallSeries}
 
 some : 0 < unit
 some = lit< tt
+
+-- a number of mas as a geodetic latitude, and β of it as a number of mas
+abbrev pub mas : ℤ → Geodetic
+mas φ = record { 0 = φ }
+
+abbrev pub betaMas : AuthalicSeries → ℤ → ℤ
+betaMas k φ = beta k (mas φ) .0
 
 -- ---- odd
 
@@ -32,7 +39,7 @@ double-neg m φ = ring (m ∷ φ ∷ []) (search quote depth 40 fits 20000) tt
 sine-multiple : (m φ : ℤ) → sine (m *ℤ negℤ φ) ≡ negℤ (sine (m *ℤ φ))
 sine-multiple m φ = ap sine (double-neg m φ) ∙ sine-odd (m *ℤ φ)
 
-terms-odd : (k : AuthalicSeries) (φ : ℤ) → terms k (negℤ φ) ≡ negℤ (terms k φ)
+terms-odd : (k : AuthalicSeries) (φ : ℤ) → terms k (mas (negℤ φ)) ≡ negℤ (terms k (mas φ))
 unfolding terms
 terms-odd k φ =
     rw (sine-multiple (pos 2) φ, sine-multiple (pos 4) φ, sine-multiple (pos 6) φ)
@@ -42,9 +49,9 @@ terms-odd k φ =
     turned a x b y c z = ring (a ∷ x ∷ b ∷ y ∷ c ∷ z ∷ []) (search quote depth 40 fits 20000) tt
 
 pub beta-odd : (k : AuthalicSeries) (φ : ℤ) → betaMas k (negℤ φ) ≡ negℤ (betaMas k φ)
-unfolding betaMas rounded
+unfolding beta rounded
 beta-odd k φ =
-    rw (terms-odd k φ, near-odd (terms k φ) unit some) (turned φ (near (terms k φ) unit))
+    rw (terms-odd k φ, near-odd (terms k (mas φ)) unit some) (turned φ (near (terms k (mas φ)) unit))
   where
     turned : (x y : ℤ) → negℤ x -ℤ negℤ y ≡ negℤ (x -ℤ y)
     turned x y = ring (x ∷ y ∷ []) (search quote depth 40 fits 20000) tt
@@ -58,7 +65,7 @@ half-turns =
     let two = sine-half-turn (pos half-turn) ∙ ap negℤ one in
     (one, two, sine-half-turn (pos (half-turn + half-turn)) ∙ ap negℤ two)
 
-terms-pole : (k : AuthalicSeries) → terms k (pos right-angle) ≡ pos 0
+terms-pole : (k : AuthalicSeries) → terms k (mas (pos right-angle)) ≡ pos 0
 unfolding terms
 terms-pole k =
     rw (half-turns .0, half-turns .1, half-turns .2) (none (k .k2) (k .k4) (k .k6))
@@ -67,7 +74,7 @@ terms-pole k =
     none a b c = ring (a ∷ b ∷ c ∷ []) (search quote depth 40 fits 20000) tt
 
 pub beta-north-pole : (k : AuthalicSeries) → betaMas k (pos right-angle) ≡ pos right-angle
-unfolding betaMas rounded
+unfolding beta rounded
 beta-north-pole k = rw (terms-pole k, near-zero unit some)
 
 pub beta-south-pole : (k : AuthalicSeries) → betaMas k (negℤ (pos right-angle)) ≡ negℤ (pos right-angle)
@@ -75,7 +82,7 @@ beta-south-pole k = beta-odd k (pos right-angle) ∙ ap negℤ (beta-north-pole 
 
 -- ---- β is near φ
 
-terms-size : (k : AuthalicSeries) → SmallSeries k → (φ : ℤ) → natAbs (terms k φ) ≤ 692_510 * unit
+terms-size : (k : AuthalicSeries) → SmallSeries k → (φ : ℤ) → natAbs (terms k (mas φ)) ≤ 692_510 * unit
 unfolding terms
 terms-size k small φ =
     sum (k .k2) (sine (pos 2 *ℤ φ)) (k .k4) (sine (pos 4 *ℤ φ)) (k .k6) (sine (pos 6 *ℤ φ))
@@ -84,9 +91,9 @@ terms-size k small φ =
     sum : (a x b y c z : ℤ) → natAbs a ≤ 691_500 → natAbs x ≤ unit → natAbs b ≤ 1_000 → natAbs y ≤ unit → natAbs c ≤ 10 → natAbs z ≤ unit → natAbs (a *ℤ x -ℤ b *ℤ y +ℤ c *ℤ z) ≤ 692_510 * unit
     sum a x b y c z ha hx hb hy hc hz = rw as-size (abs-le (search sizes depth 40 fits 20000) (lit≤ tt))
 
-pub rounded-size : (k : AuthalicSeries) → SmallSeries k → (φ : ℤ) → natAbs (rounded k φ) ≤ 692_510
+pub rounded-size : (k : AuthalicSeries) → SmallSeries k → (φ : ℤ) → natAbs (rounded k (mas φ)) ≤ 692_510
 unfolding rounded
-rounded-size k small φ = near-at-most (terms k φ) unit 692_510 some (terms-size k small φ)
+rounded-size k small φ = near-at-most (terms k (mas φ)) unit 692_510 some (terms-size k small φ)
 
 -- ---- never falling
 
@@ -94,7 +101,7 @@ rounded-size k small φ = near-at-most (terms k φ) unit 692_510 some (terms-siz
 multiple-change : (m n : ℕ) (φ : ℤ) → natAbs (sine (pos m *ℤ (φ +ℤ pos n)) -ℤ sine (pos m *ℤ φ)) ≤ 5 * (m * n)
 multiple-change m n φ = rw (*ℤ-distribˡ (pos m) φ (pos n)) (sine-change (m * n) (pos m *ℤ φ))
 
-terms-change : (k : AuthalicSeries) → SmallSeries k → (n : ℕ) (φ : ℤ) → natAbs (terms k (φ +ℤ pos n) -ℤ terms k φ) ≤ n * 7_000_000
+terms-change : (k : AuthalicSeries) → SmallSeries k → (n : ℕ) (φ : ℤ) → natAbs (terms k (mas (φ +ℤ pos n)) -ℤ terms k (mas φ)) ≤ n * 7_000_000
 unfolding terms
 terms-change k small n φ =
     sum (k .k2) (sine (pos 2 *ℤ (φ +ℤ pos n))) (sine (pos 2 *ℤ φ)) (k .k4) (sine (pos 4 *ℤ (φ +ℤ pos n))) (sine (pos 4 *ℤ φ)) (k .k6) (sine (pos 6 *ℤ (φ +ℤ pos n))) (sine (pos 6 *ℤ φ))
@@ -121,10 +128,10 @@ pub beta-slope :
     SmallSeries k →
     (n : ℕ) (φ : ℤ) →
     (pos 993 *ℤ pos n -ℤ pos 1000) ≤ℤ (pos 1000 *ℤ (betaMas k (φ +ℤ pos n) -ℤ betaMas k φ))
-unfolding betaMas rounded
+unfolding beta rounded
 beta-slope k small n φ =
-    falls-short (near (terms k (φ +ℤ pos n)) unit) (near (terms k φ) unit)
-    (omega (arith, abs-mul (pos unit) (near (terms k (φ +ℤ pos n)) unit -ℤ near (terms k φ) unit), near-apart (terms k (φ +ℤ pos n)) (terms k φ) unit some, terms-change k small n φ))
+    falls-short (near (terms k (mas (φ +ℤ pos n))) unit) (near (terms k (mas φ)) unit)
+    (omega (arith, abs-mul (pos unit) (near (terms k (mas (φ +ℤ pos n))) unit -ℤ near (terms k (mas φ)) unit), near-apart (terms k (mas (φ +ℤ pos n))) (terms k (mas φ)) unit some, terms-change k small n φ))
   where
     falls-short :
         (x y : ℤ) →

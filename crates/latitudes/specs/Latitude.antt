@@ -10,6 +10,7 @@ use Rattle.trig.specs.Sine.{sine}
 use Rattle.latitudes.specs.declared.Geodetic.{Geodetic}
 use Rattle.latitudes.specs.declared.Authalic.{Authalic}
 use Rattle.latitudes.specs.declared.AuthalicSeries.{AuthalicSeries}
+use Rattle.latitudes.specs.declared.ReversedSeries.{ReversedSeries}
 
 abbrev pub coefficients : ℤ → ℤ → ℤ → AuthalicSeries
 coefficients k2 k4 k6 = record { k2 = k2; k4 = k4; k6 = k6 }
@@ -36,7 +37,13 @@ unfoldable pub geodetic : AuthalicSeries → Authalic → Geodetic
 geodetic k β = from-south-pole (greatest (not-above k β) half-turn)
 
 -- The coefficients of every accepted set are this small, which keeps the code within 64 bits.
-pub record Small (k : AuthalicSeries) : Type 0 where
+pub record SmallSeries (k : AuthalicSeries) : Type 0 where
   pub k2-size : natAbs (k .k2) ≤ 691_500
   pub k4-size : natAbs (k .k4) ≤ 1_000
   pub k6-size : natAbs (k .k6) ≤ 10
+
+-- and so are those of the reversed series, which starts the search for φ.
+pub record SmallReversed (k : ReversedSeries) : Type 0 where
+  pub k2-size : natAbs (k .k2) ≤ 45_000_000
+  pub k4-size : natAbs (k .k4) ≤ 250_000
+  pub k6-size : natAbs (k .k6) ≤ 3_000

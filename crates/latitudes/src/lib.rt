@@ -1,8 +1,12 @@
 // Geodetic and authalic latitude in mas: two quantities, two types.
 use integers::excess;
 use integers::near;
+use sine_table::Table;
 use trig::cosine;
 use trig::sine;
+use units::HALF_TURN;
+use units::LATITUDE_MOST;
+use units::UNIT_DIVISOR;
 ghost use mathlib.Core.Path.{_≡_};
 ghost use mathlib.Core.Bool.{true};
 ghost use Prim.Native.Nat.{_≤_};
@@ -11,7 +15,7 @@ ghost use Rattle.integers.specs.Greatest.{greatest, bracketed};
 ghost use Rattle.sine_table.specs.Table.{IsTable};
 ghost use Rattle.units.specs.Units.{right-angle, half-turn};
 ghost use Rattle.trig.specs.Sine.{sine as sineOf, cosine as cosineOf};
-ghost use Rattle.latitudes.specs.Latitude.{SmallSeries, coefficients, rounded, beta, not-above, geodetic};
+ghost use Rattle.latitudes.specs.Latitude.{SmallSeries, SmallReversed, rounded, beta, not-above, geodetic};
 
 // The latitude on the ellipsoid.
 pub struct Geodetic(pub i64);
@@ -27,14 +31,14 @@ pub struct AuthalicSeries {
 }
 
 impl Geodetic {
-    pub fn sine(self, t: &[u32; 5401]) -> i64
+    pub fn sine(self, t: &Table) -> i64
         requires { ⌜ IsTable (now t) × (natAbs (self .0) ≤ right-angle) ⌝ }
         ensures { λ r. ⌜ r ≡ sineOf (self .0) ⌝ }
     {
         sine(t, self.0)
     }
 
-    pub fn cosine(self, t: &[u32; 5401]) -> i64
+    pub fn cosine(self, t: &Table) -> i64
         requires { ⌜ IsTable (now t) × (natAbs (self .0) ≤ right-angle) ⌝ }
         ensures { λ r. ⌜ r ≡ cosineOf (self .0) ⌝ }
     {
@@ -43,14 +47,14 @@ impl Geodetic {
 }
 
 impl Authalic {
-    pub fn sine(self, t: &[u32; 5401]) -> i64
+    pub fn sine(self, t: &Table) -> i64
         requires { ⌜ IsTable (now t) × (natAbs (self .0) ≤ right-angle) ⌝ }
         ensures { λ r. ⌜ r ≡ sineOf (self .0) ⌝ }
     {
         sine(t, self.0)
     }
 
-    pub fn cosine(self, t: &[u32; 5401]) -> i64
+    pub fn cosine(self, t: &Table) -> i64
         requires { ⌜ IsTable (now t) × (natAbs (self .0) ≤ right-angle) ⌝ }
         ensures { λ r. ⌜ r ≡ cosineOf (self .0) ⌝ }
     {
@@ -59,39 +63,40 @@ impl Authalic {
 }
 
 // φ − β: the three terms of the series with one rounding.
-fn correction(t: &[u32; 5401], k2: i64, k4: i64, k6: i64, phi: i64) -> i64
-    requires { ⌜ IsTable (now t) × SmallSeries (coefficients k2 k4 k6) × (natAbs phi ≤ right-angle) ⌝ }
-    ensures { λ r. ⌜ r ≡ rounded (coefficients k2 k4 k6) phi ⌝ }
-{
-    let s2 = sine(t, 2 * phi);
-    let s4 = sine(t, 4 * phi);
-    let s6 = sine(t, 6 * phi);
-    near(k2 * s2 - k4 * s4 + k6 * s6, 1000000000)
-}
-
-// β of a geodetic latitude.
-pub fn to_authalic(t: &[u32; 5401], k: AuthalicSeries, lat: Geodetic) -> Authalic
+fn correction(t: &Table, k: AuthalicSeries, lat: Geodetic) -> i64
     requires { ⌜ IsTable (now t) × SmallSeries k × (natAbs (lat .0) ≤ right-angle) ⌝ }
-    ensures { λ r. ⌜ r ≡ beta k lat ⌝ }
+    ensures { λ r. ⌜ r ≡ rounded k lat ⌝ }
 {
     let phi = lat.0;
     let k2 = k.k2;
     let k4 = k.k4;
     let k6 = k.k6;
-    Authalic(phi - correction(t, k2, k4, k6, phi))
+    let s2 = sine(t, 2 * phi);
+    let s4 = sine(t, 4 * phi);
+    let s6 = sine(t, 6 * phi);
+    near(k2 * s2 - k4 * s4 + k6 * s6, UNIT_DIVISOR)
+}
+
+// β of a geodetic latitude.
+pub fn to_authalic(t: &Table, k: AuthalicSeries, lat: Geodetic) -> Authalic
+    requires { ⌜ IsTable (now t) × SmallSeries k × (natAbs (lat .0) ≤ right-angle) ⌝ }
+    ensures { λ r. ⌜ r ≡ beta k lat ⌝ }
+{
+    let phi = lat.0;
+    Authalic(phi - correction(t, k, lat))
 }
 
 // Whether β of the latitude n mas from the South Pole is not above the one given.
-fn is_not_above(t: &[u32; 5401], k: AuthalicSeries, beta: Authalic, n: u64) -> bool
+fn is_not_above(t: &Table, k: AuthalicSeries, beta: Authalic, n: u64) -> bool
     requires { ⌜ IsTable (now t) × SmallSeries k × (natAbs (beta .0) ≤ right-angle) × (n ≤ half-turn) ⌝ }
     ensures { λ r. ⌜ r ≡ not-above k beta n ⌝ }
 {
-    let lat = Geodetic(n as i64 - 324000000);
+    let lat = Geodetic(n as i64 - LATITUDE_MOST);
     to_authalic(t, k, lat).0 <= beta.0
 }
 
 // The greatest such latitude up to `high`, where `low` is one: halves the span until one is left.
-fn search(t: &[u32; 5401], k: AuthalicSeries, beta: Authalic, low: u64, high: u64) -> u64
+fn search(t: &Table, k: AuthalicSeries, beta: Authalic, low: u64, high: u64) -> u64
     requires { ⌜ IsTable (now t) × SmallSeries k × (natAbs (beta .0) ≤ right-angle) × (low ≤ high) × (high ≤ half-turn) × (not-above k beta low ≡ true) ⌝ }
     ensures { λ r. ⌜ r ≡ greatest (not-above k beta) high ⌝ }
 {
@@ -108,14 +113,14 @@ fn search(t: &[u32; 5401], k: AuthalicSeries, beta: Authalic, low: u64, high: u6
 
 // Whether the greatest such latitude lies from `low` to `high`: `low` is one, and the latitude after
 // `high` is not or is past the North Pole.
-fn is_bracketed(t: &[u32; 5401], k: AuthalicSeries, beta: Authalic, low: u64, high: u64) -> bool
+fn is_bracketed(t: &Table, k: AuthalicSeries, beta: Authalic, low: u64, high: u64) -> bool
     requires { ⌜ IsTable (now t) × SmallSeries k × (natAbs (beta .0) ≤ right-angle) × (low ≤ half-turn) × (high ≤ half-turn) ⌝ }
     ensures { λ r. ⌜ r ≡ bracketed (not-above k beta) half-turn low high ⌝ }
 {
     if !is_not_above(t, k, beta, low) {
         return false;
     }
-    if high == 648000000 {
+    if high == HALF_TURN {
         return true;
     }
     !is_not_above(t, k, beta, high + 1)
@@ -124,7 +129,7 @@ fn is_bracketed(t: &[u32; 5401], k: AuthalicSeries, beta: Authalic, low: u64, hi
 // The greatest such latitude: searches the span of this margin about the estimate, or where that
 // does not hold it a wider one, up to all latitudes.
 fn search_near(
-    t: &[u32; 5401],
+    t: &Table,
     k: AuthalicSeries,
     beta: Authalic,
     estimate: u64,
@@ -134,12 +139,15 @@ fn search_near(
     ensures { λ r. ⌜ r ≡ greatest (not-above k beta) half-turn ⌝ }
 {
     let low = excess(estimate, margin);
-    let high = 648000000 - excess(648000000, estimate + margin);
+    let high = HALF_TURN - excess(HALF_TURN, estimate + margin);
     if is_bracketed(t, k, beta, low, high) {
         return search(t, k, beta, low, high);
     }
     search_near(t, k, beta, estimate, 16 * margin + 4)
 }
+
+// One radian, in mas.
+const RADIAN: i64 = 206_264_806;
 
 // The coefficients of the series from β back to φ, in 64ths of a mas.
 struct ReversedSeries {
@@ -151,14 +159,14 @@ struct ReversedSeries {
 // The series reversed, up to the third power of k2. One radian has 206,264,806 mas.
 fn reversed(k: AuthalicSeries) -> ReversedSeries
     requires { ⌜ SmallSeries k ⌝ }
-    ensures { λ r. ⌜ (natAbs (r .k2) ≤ 45_000_000) × (natAbs (r .k4) ≤ 250_000) × (natAbs (r .k6) ≤ 3_000) ⌝ }
+    ensures { λ r. ⌜ SmallReversed r ⌝ }
 {
     let k2 = k.k2;
     let k4 = k.k4;
     let k6 = k.k6;
-    let square = 64 * k2 * k2 / 206264806;
-    let cube = square * k2 / 206264806;
-    let product = 64 * k2 * k4 / 206264806;
+    let square = 64 * k2 * k2 / RADIAN;
+    let cube = square * k2 / RADIAN;
+    let product = 64 * k2 * k4 / RADIAN;
     let two = 64 * k2 + product - cube / 2;
     let four = 64 * k4 - square;
     let six = 64 * k6 + 3 * cube / 2 - 3 * product;
@@ -174,28 +182,31 @@ fn count_from_pole(lat: i64) -> u64
     requires { ⌜ natAbs lat ≤ 400_000_000 ⌝ }
     ensures { λ n. ⌜ n ≤ half-turn ⌝ }
 {
-    let n = (lat + 400000000) as u64;
-    648000000 - excess(648000000, excess(n, 76000000))
+    let n = (lat + 400_000_000) as u64;
+    HALF_TURN - excess(HALF_TURN, excess(n, 76_000_000))
 }
 
 // The geodetic latitude of β by the reversed series, mostly to the mas. Nothing rests on its
 // precision.
-fn estimate(t: &[u32; 5401], k2: i64, k4: i64, k6: i64, beta: i64) -> u64
-    requires { ⌜ IsTable (now t) × (natAbs k2 ≤ 45_000_000) × (natAbs k4 ≤ 250_000) × (natAbs k6 ≤ 3_000) × (natAbs beta ≤ right-angle) ⌝ }
+fn estimate(t: &Table, r: ReversedSeries, beta: Authalic) -> u64
+    requires { ⌜ IsTable (now t) × SmallReversed r × (natAbs (beta .0) ≤ right-angle) ⌝ }
     ensures { λ n. ⌜ n ≤ half-turn ⌝ }
 {
-    let s2 = sine(t, 2 * beta);
-    let s4 = sine(t, 4 * beta);
-    let s6 = sine(t, 6 * beta);
-    count_from_pole(beta + near(k2 * s2 - k4 * s4 + k6 * s6, 64000000000))
+    let b = beta.0;
+    let k2 = r.k2;
+    let k4 = r.k4;
+    let k6 = r.k6;
+    let s2 = sine(t, 2 * b);
+    let s4 = sine(t, 4 * b);
+    let s6 = sine(t, 6 * b);
+    count_from_pole(b + near(k2 * s2 - k4 * s4 + k6 * s6, 64_000_000_000))
 }
 
 // The geodetic latitude of an authalic one: the greatest whose β is not above it.
-pub fn to_geodetic(t: &[u32; 5401], k: AuthalicSeries, beta: Authalic) -> Geodetic
+pub fn to_geodetic(t: &Table, k: AuthalicSeries, beta: Authalic) -> Geodetic
     requires { ⌜ IsTable (now t) × SmallSeries k × (natAbs (beta .0) ≤ right-angle) ⌝ }
     ensures { λ r. ⌜ r ≡ geodetic k beta ⌝ }
 {
-    let r = reversed(k);
-    let n = search_near(t, k, beta, estimate(t, r.k2, r.k4, r.k6, beta.0), 0);
-    Geodetic(n as i64 - 324000000)
+    let n = search_near(t, k, beta, estimate(t, reversed(k), beta), 0);
+    Geodetic(n as i64 - LATITUDE_MOST)
 }

@@ -9,8 +9,10 @@ ghost use lib.IntN.{natAbs};
 ghost use Rattle.units.specs.Units.{half-turn};
 ghost use Rattle.units.specs.Spans.{within, on-plane, wrapped};
 
-// U: ratios, sines and cosines are counted in billionths.
+// U: ratios, sines and cosines are counted in billionths. The second is for what is divided by U.
 pub const UNIT: i64 = 1_000_000_000;
+
+pub const UNIT_DIVISOR: u64 = 1_000_000_000;
 
 // Angles in milliarcseconds (mas), as sizes.
 pub const MINUTE: u64 = 60_000;

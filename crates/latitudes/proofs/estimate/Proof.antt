@@ -1,4 +1,4 @@
--- `latitude::estimate` meets its contract: the coefficients and the sines are small, so every product and sum is within 64 bits. Assumes nothing.
+-- `estimate` meets its contract: the coefficients and the sines are small, so every product and sum is within 64 bits. Assumes nothing.
 use borrow.Author.Needs.{needs}
 use Prim.Native.Nat.{_≤_}
 use lib.Dec.{lit<}

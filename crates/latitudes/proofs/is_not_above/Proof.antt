@@ -1,4 +1,4 @@
--- `latitude::is_not_above` meets its contract. Assumes nothing.
+-- `is_not_above` meets its contract: n counts a latitude from the South Pole, whose β is compared. Assumes nothing.
 use borrow.Author.Needs.{needs}
 use mathlib.Core.Path.{_≡_, ap, ap₂, _∙_}
 use Prim.Native.Nat.{_≤_}
@@ -10,9 +10,9 @@ use mir.Syntax.{w64}
 use mir.Val.{toZ, ofZ}
 use Rattle.units.specs.Units.{right-angle}
 use Rattle.latitudes.specs.declared.Authalic.{Authalic}
-use Rattle.latitudes.proofs.AuthalicLaws.{beta-size, betaMas}
+use Rattle.latitudes.proofs.AuthalicLaws.{beta-size}
 use Rattle.latitudes.proofs.GeodeticLaws.{from-south-pole-size, counted}
-use Rattle.latitudes.specs.Latitude.{from-south-pole, not-above}
+use Rattle.latitudes.specs.Latitude.{beta, from-south-pole, not-above}
 use Rattle.latitudes.proofs.is_not_above.Statement.{statement}
 use Rattle.latitudes.proofs.is_not_above.Tie as tie
 
@@ -29,11 +29,14 @@ returns : tie.Need-returns
 unfolding not-above
 returns c =
     let start = c .before .before .before .before .before in
-    let n = start .args .n in
-    let found : c .before .before .before .before .to-authalic .result .0 ≡ betaMas (start .args .k) (from-south-pole n) = ap (λ (b : Authalic). b .0) (c .before .before .before .before .to-authalic .ensures) ∙ ap (betaMas (start .args .k)) (counted n (start .pre .3)) in
-    let size : natAbs (betaMas (start .args .k) (from-south-pole n)) ≤ right-angle = beta-size (start .args .k) (start .pre .1) (from-south-pole n) (from-south-pole-size n (start .pre .3)) in
+    let called = c .before .before .before .before .to-authalic in
+    let k = start .args .k in
+    let φ = from-south-pole (start .args .n) in
+    let found : called .result ≡ beta k φ = called .ensures ∙ ap (λ (x : ℤ). beta k (record { 0 = x })) (counted (start .args .n) (start .pre .3)) in
+    let size : natAbs (beta k φ .0) ≤ right-angle =
+        beta-size k (start .pre .1) (φ .0) (from-south-pole-size (start .args .n) (start .pre .3)) in
     ap₂ leZ
-    (ap (λ (x : ℤ). toZ w64 (ofZ w64 x)) found ∙ kept (betaMas (start .args .k) (from-south-pole n)) size (lit< tt))
+    (ap (λ (b : Authalic). toZ w64 (ofZ w64 (b .0))) found ∙ kept (beta k φ .0) size (lit< tt))
     (kept (start .args .beta .0) (start .pre .2) (lit< tt))
 
 pub is-not-above-spec : {M : Type 1} → statement M

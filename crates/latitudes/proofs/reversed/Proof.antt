@@ -1,4 +1,4 @@
--- `latitude::reversed` meets its contract: the coefficients are small, and so are their products. Assumes nothing.
+-- `reversed` meets its contract: the coefficients are small, and so are their products. Assumes nothing.
 use lib.Dec.{lit<}
 use Rattle.proof_kit.proofs.Range.{code, fits, read-size}
 use Rattle.proof_kit.proofs.Size.{as-size}
@@ -70,11 +70,13 @@ sub-six : tie.Need-sub-six
 sub-six c = fits (search (code, small c .k2-size, small c .k4-size, small c .k6-size) depth 40 fits 20000) tt
 
 returns : tie.Need-returns
-returns c = (
-  rw as-size (read-size (search (code, small c .k2-size, small c .k4-size) depth 40 fits 20000) tt),
-  rw as-size (read-size (search (code, small c .k2-size, small c .k4-size) depth 40 fits 20000) tt),
-  rw as-size (read-size (search (code, small c .k2-size, small c .k4-size, small c .k6-size) depth 40 fits 20000) tt),
-)
+returns c =
+    let s = small c in
+    record {
+      k2-size = rw as-size (read-size (search (code, s .k2-size, s .k4-size) depth 40 fits 20000) tt);
+      k4-size = rw as-size (read-size (search (code, s .k2-size, s .k4-size) depth 40 fits 20000) tt);
+      k6-size = rw as-size (read-size (search (code, s .k2-size, s .k4-size, s .k6-size) depth 40 fits 20000) tt);
+    }
 
 pub reversed-spec : {M : Type 1} → statement M
 reversed-spec =

@@ -1,4 +1,4 @@
--- `latitude::to_geodetic` meets its contract. Assumes nothing.
+-- `to_geodetic` meets its contract: the search finds the greatest count from the South Pole, which is a latitude. Assumes nothing.
 use borrow.Author.Needs.{needs}
 use mathlib.Core.Path.{ap, _∙_}
 use Prim.Native.Nat.{_≤_}
@@ -21,10 +21,12 @@ estimate-requires c κs = search needs
 search-near-requires : tie.Need-search-near-requires
 search-near-requires c κs = search needs
 
-in-span : (c : tie.After-search-near) → c .search-near .result ≤ 648_000_000
-in-span c =
-    let start = c .before .before .before .before .before .before .before in
-    rw (c .search-near .ensures) (greatest-le (not-above (start .args .k) (start .args .beta)) half-turn)
+-- the start of the function
+abbrev start : tie.After-search-near → tie.Start
+start c = c .before .before .before
+
+in-span : (c : tie.After-search-near) → c .search-near .result ≤ half-turn
+in-span c = rw (c .search-near .ensures) (greatest-le (not-above (start c .args .k) (start c .args .beta)) half-turn)
 
 cast-t7 : tie.Need-cast-t7
 cast-t7 c = record { sfits = omega (arith, in-span c) }
@@ -35,7 +37,8 @@ sub-t8 c = fits (search (code, in-span c) depth 40 fits 20000) tt
 returns : tie.Need-returns
 unfolding geodetic
 returns c =
-    ap (λ (x : ℤ). record { 0 = x }) (counted (c .search-near .result) (in-span c) ∙ ap from-south-pole (c .search-near .ensures))
+    ap (λ (x : ℤ). record { 0 = x }) (counted (c .search-near .result) (in-span c))
+    ∙ ap from-south-pole (c .search-near .ensures)
 
 pub to-geodetic-spec : {M : Type 1} → statement M
 to-geodetic-spec = tie.close (tie.spec reversed-requires estimate-requires search-near-requires cast-t7 sub-t8 returns)
