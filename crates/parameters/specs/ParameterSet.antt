@@ -33,19 +33,14 @@ accepted-lon0 lon0 = ltZ (negℤ (pos half-turn)) lon0 && leZ lon0 (pos half-tur
 unfoldable pub accepted-false : ℤ → Bool
 accepted-false z = inside 1_000_000_000 z
 
--- The refusal of the first field, in the table's order, that is not accepted; 0 is none.
-unfoldable pub firstRefusal : Bool → Bool → Bool → Bool → Bool → Bool → ℕ
-firstRefusal a e2 lat0 lon0 easting northing =
-    unless a bad-set
-    (unless e2 bad-set
-    (unless lat0 bad-set (unless lon0 bad-set (unless easting bad-set (unless northing bad-set 0)))))
-
--- A set is accepted where its refusal is 0.
+-- The refusal of the first field, in the table's order, that is not accepted; 0 is none: the set is accepted.
 unfoldable pub setRefusal : Parameters → ℕ
 setRefusal p =
-    firstRefusal (accepted-a (p .a)) (accepted-e2 (p .e2)) (accepted-lat0 (p .lat0)) (accepted-lon0 (p .lon0))
-    (accepted-false (p .«false_easting»))
-    (accepted-false (p .«false_northing»))
+    unless (accepted-a (p .a)) bad-set
+    (unless (accepted-e2 (p .e2)) bad-set
+    (unless (accepted-lat0 (p .lat0)) bad-set
+    (unless (accepted-lon0 (p .lon0)) bad-set
+    (unless (accepted-false (p .«false_easting»)) bad-set (unless (accepted-false (p .«false_northing»)) bad-set 0)))))
 
 -- "a 637,813,700; e2 6,694,380; φ0 187,200,000; lon0 36,000,000; FE 432,100,000; FN 321,000,000"
 abbrev pub etrsLaea : Parameters

@@ -1,48 +1,53 @@
 // The parameter set, its accepted limits and the named set ETRS-LAEA.
 use latitudes::Geodetic;
+use units::LATITUDE_LEAST;
+use units::LATITUDE_MOST;
+use units::is_within;
+use units::refusals::BAD_SET;
+use units::refusals::unless;
 ghost use mathlib.Core.Path.{_≡_};
-ghost use mathlib.Core.Bool.{_&&_};
-ghost use Rattle.units.specs.Spans.{within};
-ghost use Rattle.parameters.specs.ParameterSet.{polar, accepted-lat0, accepted-lon0, firstRefusal, setRefusal, etrsLaea};
+ghost use Rattle.parameters.specs.ParameterSet.{accepted-a, accepted-e2, polar, accepted-lat0, accepted-lon0, accepted-false, setRefusal, etrsLaea};
 
-// Whether z is from low to high, both counted.
-pub fn is_within(low: i64, high: i64, z: i64) -> bool
-    ensures { λ r. ⌜ r ≡ within low high z ⌝ }
+// Whether a is an accepted semi-major axis.
+fn is_a(a: i64) -> bool
+    ensures { λ r. ⌜ r ≡ accepted-a a ⌝ }
 {
-    if z < low {
-        return false;
-    }
-    z <= high
+    is_within(Parameters::A_LEAST, Parameters::A_MOST, a)
 }
 
-// Whether x is from low to high and y from least to most.
-pub fn are_within(low: i64, high: i64, x: i64, least: i64, most: i64, y: i64) -> bool
-    ensures { λ r. ⌜ r ≡ (within low high x && within least most y) ⌝ }
+// Whether e2 is an accepted eccentricity squared.
+fn is_e2(e2: i64) -> bool
+    ensures { λ r. ⌜ r ≡ accepted-e2 e2 ⌝ }
 {
-    if !is_within(low, high, x) {
-        return false;
-    }
-    is_within(least, most, y)
+    is_within(Parameters::E2_LEAST, Parameters::E2_MOST, e2)
 }
 
-// Whether phi0 is a pole.
-pub fn is_pole(phi0: i64) -> bool
-    ensures { λ r. ⌜ r ≡ polar phi0 ⌝ }
+// Whether z is an accepted false easting or northing.
+fn is_false(z: i64) -> bool
+    ensures { λ r. ⌜ r ≡ accepted-false z ⌝ }
 {
-    if is_within(Parameters::POLE, Parameters::POLE, phi0) {
+    is_within(Parameters::FALSE_LEAST, Parameters::FALSE_MOST, z)
+}
+
+// Whether lat0 is a pole.
+pub fn is_pole(lat0: Geodetic) -> bool
+    ensures { λ r. ⌜ r ≡ polar lat0 ⌝ }
+{
+    let phi0 = lat0.0;
+    if is_within(LATITUDE_MOST, LATITUDE_MOST, phi0) {
         return true;
     }
-    is_within(-Parameters::POLE, -Parameters::POLE, phi0)
+    is_within(LATITUDE_LEAST, LATITUDE_LEAST, phi0)
 }
 
-// Whether phi0 is an accepted latitude of the natural origin.
-fn is_lat0(phi0: i64) -> bool
-    ensures { λ r. ⌜ r ≡ accepted-lat0 phi0 ⌝ }
+// Whether lat0 is an accepted latitude of the natural origin.
+fn is_lat0(lat0: Geodetic) -> bool
+    ensures { λ r. ⌜ r ≡ accepted-lat0 lat0 ⌝ }
 {
-    if is_within(-Parameters::LAT0_MOST, Parameters::LAT0_MOST, phi0) {
+    if is_within(Parameters::LAT0_LEAST, Parameters::LAT0_MOST, lat0.0) {
         return true;
     }
-    is_pole(phi0)
+    is_pole(lat0)
 }
 
 // Whether lon0 is an accepted longitude of the natural origin.
@@ -69,60 +74,35 @@ pub struct Parameters {
     pub false_northing: i64,
 }
 
-// The refusal of the first field that is not accepted; 0 is none.
-fn first_refusal(a: bool, e2: bool, lat0: bool, lon0: bool, easting: bool, northing: bool) -> u8
-    ensures { λ r. ⌜ r ≡ firstRefusal a e2 lat0 lon0 easting northing ⌝ }
-{
-    if !a {
-        return 1;
-    }
-    if !e2 {
-        return 1;
-    }
-    if !lat0 {
-        return 1;
-    }
-    if !lon0 {
-        return 1;
-    }
-    if !easting {
-        return 1;
-    }
-    if !northing {
-        return 1;
-    }
-    0
-}
-
 impl Parameters {
-    pub const A_LEAST: i64 = 100000000;
+    pub const A_LEAST: i64 = 100_000_000;
 
-    pub const A_MOST: i64 = 1000000000;
+    pub const A_MOST: i64 = 1_000_000_000;
 
     pub const E2_LEAST: i64 = 0;
 
-    pub const E2_MOST: i64 = 10000000;
+    pub const E2_MOST: i64 = 10_000_000;
     // 85°, either side of the Equator; beyond it only a pole itself
-    pub const LAT0_MOST: i64 = 306000000;
+    pub const LAT0_LEAST: i64 = -306_000_000;
 
-    pub const POLE: i64 = 324000000;
+    pub const LAT0_MOST: i64 = 306_000_000;
     // above the first, at most the second
-    pub const LON0_ABOVE: i64 = -648000000;
+    pub const LON0_ABOVE: i64 = -648_000_000;
 
-    pub const LON0_MOST: i64 = 648000000;
+    pub const LON0_MOST: i64 = 648_000_000;
 
-    pub const FALSE_LEAST: i64 = -1000000000;
+    pub const FALSE_LEAST: i64 = -1_000_000_000;
 
-    pub const FALSE_MOST: i64 = 1000000000;
+    pub const FALSE_MOST: i64 = 1_000_000_000;
 
     // ETRS89 / ETRS-LAEA
     pub const ETRS_LAEA: Parameters = Parameters {
-        a: 637813700,
-        e2: 6694380,
-        lat0: Geodetic(187200000),
-        lon0: 36000000,
-        false_easting: 432100000,
-        false_northing: 321000000,
+        a: 637_813_700,
+        e2: 6_694_380,
+        lat0: Geodetic(187_200_000),
+        lon0: 36_000_000,
+        false_easting: 432_100_000,
+        false_northing: 321_000_000,
     };
 
     pub fn etrs_laea() -> Parameters
@@ -131,26 +111,16 @@ impl Parameters {
         Parameters::ETRS_LAEA
     }
 
-    // The set's refusal; 0 is none: the set is accepted.
+    // Of the first field that is not accepted; 0 is none: the set is accepted.
     pub fn refusal(self) -> u8
         ensures { λ r. ⌜ r ≡ setRefusal self ⌝ }
     {
-        let origin = self.lat0;
-        first_refusal(
-            is_within(Parameters::A_LEAST, Parameters::A_MOST, self.a),
-            is_within(Parameters::E2_LEAST, Parameters::E2_MOST, self.e2),
-            is_lat0(origin.0),
-            is_lon0(self.lon0),
-            is_within(
-                Parameters::FALSE_LEAST,
-                Parameters::FALSE_MOST,
-                self.false_easting,
-            ),
-            is_within(
-                Parameters::FALSE_LEAST,
-                Parameters::FALSE_MOST,
-                self.false_northing,
-            ),
-        )
+        let lat0 = self.lat0;
+        let northing = unless(is_false(self.false_northing), BAD_SET, 0);
+        let easting = unless(is_false(self.false_easting), BAD_SET, northing);
+        let lon0 = unless(is_lon0(self.lon0), BAD_SET, easting);
+        let origin = unless(is_lat0(lat0), BAD_SET, lon0);
+        let e2 = unless(is_e2(self.e2), BAD_SET, origin);
+        unless(is_a(self.a), BAD_SET, e2)
     }
 }

@@ -1,42 +1,22 @@
--- `Parameters::refusal` meets its contract: each test is that of its field, read back as it was passed. Assumes nothing.
+-- `Parameters::refusal` meets its contract: each link of the chain is the test of its field, passed on as it is, before the links that
+-- follow it. Assumes nothing.
 use borrow.Author.Needs.{needs}
-use mathlib.Core.Path.{ap, _∙_}
-use lib.IntN.{pos, negℤ}
+use mathlib.Core.Path.{_≡_, refl, ap, ap₂, _∙_}
+use mathlib.Core.Bool.{Bool}
+use Prim.Native.Nat.{ℕ}
 use mir.Syntax.{w64}
 use mir.Val.{SFits}
 use mir.Facts.{toZ-ofZ}
+use Rattle.units.specs.Refusals.{bad-set, unless}
 use Rattle.parameters.specs.declared.Parameters.{Parameters}
-use Rattle.units.specs.Spans.{within}
 use Rattle.parameters.specs.ParameterSet.{accepted-a, accepted-e2, accepted-lat0, accepted-lon0, accepted-false, setRefusal}
 use Rattle.parameters.proofs.Parameters.refusal.Statement.{statement}
 use Rattle.parameters.proofs.Parameters.refusal.Tie as tie
-
-is-within-requires : tie.Need-is-within-requires
-is-within-requires c κs = search needs
-
-is-within-requires-2 : tie.Need-is-within-requires-2
-is-within-requires-2 c κs = search needs
-
-is-lat0-requires : tie.Need-is-lat0-requires
-is-lat0-requires c κs = search needs
-
-is-lon0-requires : tie.Need-is-lon0-requires
-is-lon0-requires c κs = search needs
-
-is-within-requires-3 : tie.Need-is-within-requires-3
-is-within-requires-3 c κs = search needs
-
-is-within-requires-4 : tie.Need-is-within-requires-4
-is-within-requires-4 c κs = search needs
-
-first-refusal-requires : tie.Need-first-refusal-requires
-first-refusal-requires c κs = search needs
 
 -- every field is an i64
 record Fields (p : Parameters) : Type 0 where
   pub a-fits : SFits w64 (p .a)
   pub e2-fits : SFits w64 (p .e2)
-  pub lat0-fits : SFits w64 (p .lat0 .0)
   pub lon0-fits : SFits w64 (p .lon0)
   pub easting-fits : SFits w64 (p .«false_easting»)
   pub northing-fits : SFits w64 (p .«false_northing»)
@@ -46,35 +26,122 @@ fields c =
     record {
       a-fits = search needs;
       e2-fits = search needs;
-      lat0-fits = search needs;
       lon0-fits = search needs;
       easting-fits = search needs;
       northing-fits = search needs;
     }
 
+-- one link: r is what `unless` gave of the test t and the links n
+linked : {r n n′ : ℕ} {t t′ : Bool} → r ≡ unless t bad-set n → t ≡ t′ → n ≡ n′ → r ≡ unless t′ bad-set n′
+linked e f g = e ∙ ap₂ (λ (t : Bool) (n : ℕ). unless t bad-set n) f g
+
+-- the set
+abbrev p1 : tie.After-unless → Parameters
+p1 c = c .before .before .before .before .args .self
+
+-- the links from each field on, the last field first
+abbrev from-northing : Parameters → ℕ
+from-northing p = unless (accepted-false (p .«false_northing»)) bad-set 0
+
+abbrev from-easting : Parameters → ℕ
+from-easting p = unless (accepted-false (p .«false_easting»)) bad-set (from-northing p)
+
+abbrev from-lon0 : Parameters → ℕ
+from-lon0 p = unless (accepted-lon0 (p .lon0)) bad-set (from-easting p)
+
+abbrev from-lat0 : Parameters → ℕ
+from-lat0 p = unless (accepted-lat0 (p .lat0)) bad-set (from-lon0 p)
+
+abbrev from-e2 : Parameters → ℕ
+from-e2 p = unless (accepted-e2 (p .e2)) bad-set (from-lat0 p)
+
+northing-is : (c : tie.After-unless) → c .unless .result ≡ from-northing (p1 c)
+northing-is c =
+    let f = fields (c .before .before) in
+    linked (c .unless .ensures) (c .before .is-false .ensures ∙ ap accepted-false (toZ-ofZ (f .northing-fits))) refl
+
+easting-is : (c : tie.After-unless2) → c .unless2 .result ≡ from-easting (p1 (c .before .before .before))
+easting-is c =
+    let f = fields (c .before .before .before .before .before) in
+    linked (c .unless2 .ensures)
+    (c .before .is-false2 .ensures ∙ ap accepted-false (toZ-ofZ (f .easting-fits)))
+    (northing-is (c .before .before .before))
+
+lon0-is : (c : tie.After-unless3) → c .unless3 .result ≡ from-lon0 (p1 (c .before .before .before .before .before .before))
+lon0-is c =
+    let f = fields (c .before .before .before .before .before .before .before .before) in
+    linked (c .unless3 .ensures)
+    (c .before .is-lon0 .ensures ∙ ap accepted-lon0 (toZ-ofZ (f .lon0-fits)))
+    (easting-is (c .before .before .before))
+
+lat0-is : (c : tie.After-unless4) → c .unless4 .result ≡ from-lat0 (p1 (c .before .before .before .before .before .before .before .before))
+lat0-is c = linked (c .unless4 .ensures) (c .before .is-lat0 .ensures) (lon0-is (c .before .before))
+
+e2-is : (c : tie.After-unless5) → c .unless5 .result ≡ from-e2 (p1 (c .before .before .before .before .before .before .before .before .before .before .before))
+e2-is c =
+    let f = fields (c .before .before .before .before .before .before .before .before .before .before .before .before .before) in
+    linked (c .unless5 .ensures)
+    (c .before .is-e2 .ensures ∙ ap accepted-e2 (toZ-ofZ (f .e2-fits)))
+    (lat0-is (c .before .before .before))
+
+is-false-requires : tie.Need-is-false-requires
+is-false-requires c κs = search needs
+
+unless-requires : tie.Need-unless-requires
+unless-requires c κs = search needs
+
+is-false-requires-2 : tie.Need-is-false-requires-2
+is-false-requires-2 c κs = search needs
+
+unless-requires-2 : tie.Need-unless-requires-2
+unless-requires-2 c κs = search needs
+
+is-lon0-requires : tie.Need-is-lon0-requires
+is-lon0-requires c κs = search needs
+
+unless-requires-3 : tie.Need-unless-requires-3
+unless-requires-3 c κs = search needs
+
+is-lat0-requires : tie.Need-is-lat0-requires
+is-lat0-requires c κs = search needs
+
+unless-requires-4 : tie.Need-unless-requires-4
+unless-requires-4 c κs = search needs
+
+is-e2-requires : tie.Need-is-e2-requires
+is-e2-requires c κs = search needs
+
+unless-requires-5 : tie.Need-unless-requires-5
+unless-requires-5 c κs = search needs
+
+is-a-requires : tie.Need-is-a-requires
+is-a-requires c κs = search needs
+
+unless-requires-6 : tie.Need-unless-requires-6
+unless-requires-6 c κs = search needs
+
 returns : tie.Need-returns
-unfolding setRefusal accepted-a accepted-e2 accepted-false
+unfolding setRefusal
 returns c =
-    let f = fields (c .before .before .before .before .before .before .before .before .before .before .before .before) in
-    c .first-refusal .ensures
-    ∙ rw (
-      c .before .before .before .before .before .before .before .before .before .before .before .is-within .ensures ∙ ap (within (pos 100_000_000) (pos 1_000_000_000)) (toZ-ofZ (f .a-fits)),
-      c .before .before .before .before .before .before .before .before .before .is-within2 .ensures ∙ ap (within (pos 0) (pos 10_000_000)) (toZ-ofZ (f .e2-fits)),
-      c .before .before .before .before .before .before .before .is-lat0 .ensures ∙ ap accepted-lat0 (toZ-ofZ (f .lat0-fits)),
-      c .before .before .before .before .before .is-lon0 .ensures ∙ ap accepted-lon0 (toZ-ofZ (f .lon0-fits)),
-      c .before .before .before .is-within3 .ensures ∙ ap (within (negℤ (pos 1_000_000_000)) (pos 1_000_000_000)) (toZ-ofZ (f .easting-fits)),
-      c .before .is-within4 .ensures ∙ ap (within (negℤ (pos 1_000_000_000)) (pos 1_000_000_000)) (toZ-ofZ (f .northing-fits)),
-    )
+    let f = fields (c .before .before .before .before .before .before .before .before .before .before .before .before .before .before .before .before) in
+    linked (c .unless6 .ensures)
+    (c .before .is-a .ensures ∙ ap accepted-a (toZ-ofZ (f .a-fits)))
+    (e2-is (c .before .before .before))
 
 pub refusal-spec : {M : Type 1} → statement M
 refusal-spec =
     tie.close
     (tie.spec
-    is-within-requires
-    is-within-requires-2
-    is-lat0-requires
+    is-false-requires
+    unless-requires
+    is-false-requires-2
+    unless-requires-2
     is-lon0-requires
-    is-within-requires-3
-    is-within-requires-4
-    first-refusal-requires
+    unless-requires-3
+    is-lat0-requires
+    unless-requires-4
+    is-e2-requires
+    unless-requires-5
+    is-a-requires
+    unless-requires-6
     returns)
