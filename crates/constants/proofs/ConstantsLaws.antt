@@ -14,7 +14,7 @@ use Rattle.constants.proofs.ScaleLaws.{e2-small, RD-between, RN-between
 
 pub record Sound (k : Constants) : Type 0 where
   pub small : SmallSeries (k .series)
-  pub turned : BoundedCentre k
+  pub centre : BoundedCentre k
   pub rd-between : Between (k .rd) 90_909_091 1_080_000_000
   pub rn-between : Between (k .rn) 90_909_091 1_080_000_000
 
@@ -24,7 +24,7 @@ sound p h =
     let ok = accepted p h in
     record {
       small = series-small (p .e2) (e2-small p ok);
-      turned = record { s0-size = sine-size (β0 (p .e2) (p .lat0 .0)); c0-size = cosine-size (β0 (p .e2) (p .lat0 .0)) };
+      centre = record { s0-size = sine-size (β0 (p .e2) (p .lat0) .0); c0-size = cosine-size (β0 (p .e2) (p .lat0) .0) };
       rd-between = RD-between p ok;
       rn-between = RN-between p ok;
     }

@@ -23,8 +23,9 @@ use Rattle.trig.specs.Sine.{sine, cosine}
 use Rattle.trig.proofs.Interface.{sine-size, cosine-size, cosine-even, cosine-nonneg, cosine-anti, cosine-apart, sine-5-degrees}
 use Rattle.parameters.specs.declared.Parameters.{Parameters}
 use Rattle.parameters.specs.ParameterSet.{polar, accepted-lat0}
-use Rattle.latitudes.proofs.AuthalicLaws.{betaMas, rounded-size, beta-size}
-use Rattle.latitudes.specs.Latitude.{rounded}
+use Rattle.latitudes.proofs.AuthalicLaws.{rounded-size, beta-size}
+use Rattle.latitudes.specs.declared.Geodetic.{Geodetic}
+use Rattle.latitudes.specs.Latitude.{beta, rounded}
 use Rattle.constants.specs.Derived.{J, seriesOf, β0, C0, «V», m, D, Rq, RD, RN}
 use Rattle.constants.proofs.SeriesLaws.{About, about, J-low, J-high, series-small}
 use Rattle.units.proofs.Spans.{Between}
@@ -50,28 +51,28 @@ module _ (φ0 : ℤ) (oblique : natAbs φ0 ≤ 306_000_000) where
 
 -- ---- C0 is near cosine(φ0)
 
-beta-apart : (e2 φ0 : ℤ) → natAbs e2 ≤ 10_000_000 → natAbs (β0 e2 φ0 -ℤ φ0) ≤ 692_510
-unfolding β0 betaMas
+beta-apart : (e2 : ℤ) (φ0 : Geodetic) → natAbs e2 ≤ 10_000_000 → natAbs (β0 e2 φ0 .0 -ℤ φ0 .0) ≤ 692_510
+unfolding β0 beta
 beta-apart e2 φ0 small =
-    rw (back φ0 (rounded (seriesOf e2) φ0), abs-neg (rounded (seriesOf e2) φ0)) (rounded-size (seriesOf e2) (series-small e2 small) φ0)
+    rw (back (φ0 .0) (rounded (seriesOf e2) φ0), abs-neg (rounded (seriesOf e2) φ0)) (rounded-size (seriesOf e2) (series-small e2 small) (φ0 .0))
   where
     back : (x y : ℤ) → x -ℤ y -ℤ x ≡ negℤ y
     back x y = ring (x ∷ y ∷ []) (search quote depth 40 fits 20000) tt
 
-C0-about : (e2 φ0 : ℤ) → natAbs e2 ≤ 10_000_000 → natAbs φ0 ≤ 306_000_000 → About (C0 e2 φ0) (natAbs (cosine φ0)) 3_462_550
+C0-about : (e2 : ℤ) (φ0 : Geodetic) → natAbs e2 ≤ 10_000_000 → natAbs (φ0 .0) ≤ 306_000_000 → About (C0 e2 φ0) (natAbs (cosine (φ0 .0))) 3_462_550
 unfolding C0
 C0-about e2 φ0 small oblique =
-    about (cosine (β0 e2 φ0)) (natAbs (cosine φ0)) 3_462_550
-    (rw (g-natural φ0 oblique) (omega (arith, cosine-apart (β0 e2 φ0) φ0, beta-apart e2 φ0 small)))
-    (omega (arith, g-least φ0 oblique))
+    about (cosine (β0 e2 φ0 .0)) (natAbs (cosine (φ0 .0))) 3_462_550
+    (rw (g-natural (φ0 .0) oblique) (omega (arith, cosine-apart (β0 e2 φ0 .0) (φ0 .0), beta-apart e2 φ0 small)))
+    (omega (arith, g-least (φ0 .0) oblique))
 
-pub β0-size : (e2 φ0 : ℤ) → natAbs e2 ≤ 10_000_000 → natAbs φ0 ≤ right-angle → natAbs (β0 e2 φ0) ≤ right-angle
+pub β0-size : (e2 : ℤ) (φ0 : Geodetic) → natAbs e2 ≤ 10_000_000 → natAbs (φ0 .0) ≤ right-angle → natAbs (β0 e2 φ0 .0) ≤ right-angle
 unfolding β0
-β0-size e2 φ0 small h = beta-size (seriesOf e2) (series-small e2 small) φ0 h
+β0-size e2 φ0 small h = beta-size (seriesOf e2) (series-small e2 small) (φ0 .0) h
 
-pub C0-size : (e2 φ0 : ℤ) → natAbs (C0 e2 φ0) ≤ unit
+pub C0-size : (e2 : ℤ) (φ0 : Geodetic) → natAbs (C0 e2 φ0) ≤ unit
 unfolding C0
-C0-size e2 φ0 = cosine-size (β0 e2 φ0)
+C0-size e2 φ0 = cosine-size (β0 e2 φ0 .0)
 
 -- ---- V and its root
 
@@ -79,18 +80,18 @@ pub square-size : (φ0 : ℤ) → natAbs (near (sine φ0 *ℤ sine φ0) unit) �
 square-size φ0 =
     near-at-most (sine φ0 *ℤ sine φ0) unit unit some (abs-mul-le (sine φ0) (sine φ0) (sine-size φ0) (sine-size φ0))
 
-pub V-about : (e2 φ0 : ℤ) → natAbs e2 ≤ 10_000_000 → About («V» e2 φ0) unit 10_000_000
+pub V-about : (e2 : ℤ) (φ0 : Geodetic) → natAbs e2 ≤ 10_000_000 → About («V» e2 φ0) unit 10_000_000
 unfolding «V»
 V-about e2 φ0 small =
-    about (U -ℤ near (e2 *ℤ near (sine φ0 *ℤ sine φ0) unit) unit) unit 10_000_000
-    (rw (back U (near (e2 *ℤ near (sine φ0 *ℤ sine φ0) unit) unit), abs-neg (near (e2 *ℤ near (sine φ0 *ℤ sine φ0) unit) unit))
-    (near-at-most (e2 *ℤ near (sine φ0 *ℤ sine φ0) unit) unit 10_000_000 some (abs-mul-le e2 (near (sine φ0 *ℤ sine φ0) unit) small (square-size φ0))))
+    about (U -ℤ near (e2 *ℤ near (sine (φ0 .0) *ℤ sine (φ0 .0)) unit) unit) unit 10_000_000
+    (rw (back U (near (e2 *ℤ near (sine (φ0 .0) *ℤ sine (φ0 .0)) unit) unit), abs-neg (near (e2 *ℤ near (sine (φ0 .0) *ℤ sine (φ0 .0)) unit) unit))
+    (near-at-most (e2 *ℤ near (sine (φ0 .0) *ℤ sine (φ0 .0)) unit) unit 10_000_000 some (abs-mul-le e2 (near (sine (φ0 .0) *ℤ sine (φ0 .0)) unit) small (square-size (φ0 .0)))))
     (lit≤ tt)
   where
     back : (x y : ℤ) → x -ℤ y -ℤ x ≡ negℤ y
     back x y = ring (x ∷ y ∷ []) (search quote depth 40 fits 20000) tt
 
-module _ (e2 φ0 : ℤ) (small : natAbs e2 ≤ 10_000_000) where
+module _ (e2 : ℤ) (φ0 : Geodetic) (small : natAbs e2 ≤ 10_000_000) where
   pub V-root-least : 994_000_000 ≤ root (natAbs («V» e2 φ0 *ℤ U))
   V-root-least =
       root-least (natAbs («V» e2 φ0 *ℤ U)) 994_000_000 (rw (abs-mul («V» e2 φ0) U) (omega (arith, V-about e2 φ0 small .low)))
@@ -158,9 +159,9 @@ J-natural e2 = refl
 near-natural : (x y : ℤ) (d : ℕ) → pos (natAbs x) ≡ x → pos (natAbs y) ≡ y → near (x *ℤ y) d ≡ pos (nearest (natAbs x * natAbs y) d)
 near-natural x y d e f = ap₂ (λ (a b : ℤ). near (a *ℤ b) d) (sym e) (sym f) ∙ near-pos (natAbs x * natAbs y) d
 
-module _ (e2 φ0 : ℤ) (small : natAbs e2 ≤ 10_000_000) (oblique : natAbs φ0 ≤ 306_000_000) where
+module _ (e2 : ℤ) (φ0 : Geodetic) (small : natAbs e2 ≤ 10_000_000) (oblique : natAbs (φ0 .0) ≤ 306_000_000) where
   g : ℕ
-  g = natAbs (cosine φ0)
+  g = natAbs (cosine (φ0 .0))
 
   r : ℕ
   r = root (natAbs («V» e2 φ0 *ℤ U))
@@ -173,7 +174,7 @@ module _ (e2 φ0 : ℤ) (small : natAbs e2 ≤ 10_000_000) (oblique : natAbs φ0
 
   m-is : m e2 φ0 ≡ pos mn
   unfolding m mn g r
-  m-is = near-natural (cosine φ0) U r (g-natural φ0 oblique) refl
+  m-is = near-natural (cosine (φ0 .0)) U r (g-natural (φ0 .0) oblique) refl
 
   j-is : near (J e2 *ℤ C0 e2 φ0) unit ≡ pos jn
   unfolding jn
@@ -184,23 +185,23 @@ module _ (e2 φ0 : ℤ) (small : natAbs e2 ≤ 10_000_000) (oblique : natAbs φ0
 
   mn-high : 1000 * mn ≤ 1007 * g
   unfolding mn g r
-  mn-high = m-high g r mn (g-least φ0 oblique) (V-root-least e2 φ0 small) (V-root-most e2 φ0 small) refl
+  mn-high = m-high g r mn (g-least (φ0 .0) oblique) (V-root-least e2 φ0 small) (V-root-most e2 φ0 small) refl
 
   mn-low : 994 * g ≤ 1000 * mn
   unfolding mn g r
-  mn-low = m-low g r mn (g-least φ0 oblique) (V-root-least e2 φ0 small) (V-root-most e2 φ0 small) refl
+  mn-low = m-low g r mn (g-least (φ0 .0) oblique) (V-root-least e2 φ0 small) (V-root-most e2 φ0 small) refl
 
   jn-high : 1000 * jn ≤ 1043 * g
   unfolding jn g
   jn-high =
       let c = C0-about e2 φ0 small oblique in
-      j-high g (natAbs (J e2)) (natAbs (C0 e2 φ0)) jn (g-least φ0 oblique) (c .low) (c .high) (J-low e2 small) (J-high e2 small) refl
+      j-high g (natAbs (J e2)) (natAbs (C0 e2 φ0)) jn (g-least (φ0 .0) oblique) (c .low) (c .high) (J-low e2 small) (J-high e2 small) refl
 
   jn-low : 956 * g ≤ 1000 * jn
   unfolding jn g
   jn-low =
       let c = C0-about e2 φ0 small oblique in
-      j-low g (natAbs (J e2)) (natAbs (C0 e2 φ0)) jn (g-least φ0 oblique) (c .low) (c .high) (J-low e2 small) (J-high e2 small) refl
+      j-low g (natAbs (J e2)) (natAbs (C0 e2 φ0)) jn (g-least (φ0 .0) oblique) (c .low) (c .high) (J-low e2 small) (J-high e2 small) refl
 
   quotient-between : Between (near (m e2 φ0 *ℤ U) (natAbs (near (J e2 *ℤ C0 e2 φ0) unit))) 930_000_000 1_070_000_000
   unfolding g
@@ -208,14 +209,14 @@ module _ (e2 φ0 : ℤ) (small : natAbs e2 ≤ 10_000_000) (oblique : natAbs φ0
       rw quotient-is
       (record {
         natural = refl;
-        least = D-least g mn jn (g-least φ0 oblique) jn-low mn-low jn-high;
-        most = D-most g mn jn (g-least φ0 oblique) jn-low mn-high;
+        least = D-least g mn jn (g-least (φ0 .0) oblique) jn-low mn-low jn-high;
+        most = D-most g mn jn (g-least (φ0 .0) oblique) jn-low mn-high;
       })
 
   -- what the code asks of m and of the divisor j
   pub m-size : natAbs (m e2 φ0) ≤ 1_007_000_000
   unfolding g
-  m-size = rw m-is (omega (arith, mn-high, cosine-size φ0))
+  m-size = rw m-is (omega (arith, mn-high, cosine-size (φ0 .0)))
 
   pub j-between : Between (near (J e2 *ℤ C0 e2 φ0) unit) 80_000_000 1_043_000_000
   unfolding g
@@ -223,19 +224,19 @@ module _ (e2 φ0 : ℤ) (small : natAbs e2 ≤ 10_000_000) (oblique : natAbs φ0
       rw j-is
       (record {
         natural = refl;
-        least = j-large g mn jn (g-least φ0 oblique) jn-low;
-        most = omega (arith, jn-high, cosine-size φ0);
+        least = j-large g mn jn (g-least (φ0 .0) oblique) jn-low;
+        most = omega (arith, jn-high, cosine-size (φ0 .0));
       })
 
 -- φ0 where D is the quotient
-pub oblique : (φ0 : ℤ) → accepted-lat0 φ0 ≡ true → polar φ0 ≡ false → natAbs φ0 ≤ 306_000_000
+pub oblique : (φ0 : Geodetic) → accepted-lat0 φ0 ≡ true → polar φ0 ≡ false → natAbs (φ0 .0) ≤ 306_000_000
 oblique φ0 ok e = at (oblique-or-polar φ0 ok)
   where
-    at : (natAbs φ0 ≤ 306_000_000) ⊎ (polar φ0 ≡ true) → natAbs φ0 ≤ 306_000_000
+    at : (natAbs (φ0 .0) ≤ 306_000_000) ⊎ (polar φ0 ≡ true) → natAbs (φ0 .0) ≤ 306_000_000
     at (inl h) = h
     at (inr t) = let z : _≡_ {A = ℕ} 0 1 = cc in omega arith
 
-pub D-between : (e2 φ0 : ℤ) → natAbs e2 ≤ 10_000_000 → accepted-lat0 φ0 ≡ true → Between (D e2 φ0) 930_000_000 1_070_000_000
+pub D-between : (e2 : ℤ) (φ0 : Geodetic) → natAbs e2 ≤ 10_000_000 → accepted-lat0 φ0 ≡ true → Between (D e2 φ0) 930_000_000 1_070_000_000
 unfolding D
 D-between e2 φ0 small ok = at (polar φ0) refl
   where
@@ -252,8 +253,8 @@ module _ (p : Parameters) (ok : Accepted p) where
   pub e2-small : natAbs (p .e2) ≤ 10_000_000
   e2-small = ok .e2-between .most
 
-  D-ok : Between (D (p .e2) (p .lat0 .0)) 930_000_000 1_070_000_000
-  D-ok = D-between (p .e2) (p .lat0 .0) e2-small (ok .lat0-accepted)
+  D-ok : Between (D (p .e2) (p .lat0)) 930_000_000 1_070_000_000
+  D-ok = D-between (p .e2) (p .lat0) e2-small (ok .lat0-accepted)
 
   Rq-is : Rq p ≡ pos (nearest (natAbs (p .a) * natAbs (J (p .e2))) unit)
   unfolding Rq
@@ -267,21 +268,21 @@ module _ (p : Parameters) (ok : Accepted p) where
       let most : a * j ≤ 1_000_000_000 * 1_002_000_000 = mul-le-mul (ok .a-between .most) (J-high (p .e2) e2-small) in
       rw Rq-is (record { natural = refl; least = omega (arith, nearest-high (a * j) some); most = omega (arith, nearest-low (a * j) some) })
 
-  RD-is : RD p ≡ pos (nearest (natAbs (Rq p) * natAbs (D (p .e2) (p .lat0 .0))) unit)
+  RD-is : RD p ≡ pos (nearest (natAbs (Rq p) * natAbs (D (p .e2) (p .lat0))) unit)
   unfolding RD
-  RD-is = near-natural (Rq p) (D (p .e2) (p .lat0 .0)) unit (Rq-between .natural) (D-ok .natural)
+  RD-is = near-natural (Rq p) (D (p .e2) (p .lat0)) unit (Rq-between .natural) (D-ok .natural)
 
   pub RD-between : Between (RD p) 90_909_091 1_080_000_000
   RD-between =
       let q : ℕ = natAbs (Rq p) in
-      let d : ℕ = natAbs (D (p .e2) (p .lat0 .0)) in
+      let d : ℕ = natAbs (D (p .e2) (p .lat0)) in
       let least : 99_599_999 * 930_000_000 ≤ q * d = mul-le-mul (Rq-between .least) (D-ok .least) in
       let most : q * d ≤ 1_002_000_000 * 1_070_000_000 = mul-le-mul (Rq-between .most) (D-ok .most) in
       rw RD-is (record { natural = refl; least = omega (arith, nearest-high (q * d) some); most = omega (arith, nearest-low (q * d) some) })
 
-  RN-is : RN p ≡ pos (nearest (natAbs (Rq p) * unit) (natAbs (D (p .e2) (p .lat0 .0))))
+  RN-is : RN p ≡ pos (nearest (natAbs (Rq p) * unit) (natAbs (D (p .e2) (p .lat0))))
   unfolding RN
-  RN-is = near-natural (Rq p) U (natAbs (D (p .e2) (p .lat0 .0))) (Rq-between .natural) refl
+  RN-is = near-natural (Rq p) U (natAbs (D (p .e2) (p .lat0))) (Rq-between .natural) refl
 
   -- a quotient by a divisor from 0.93 U to 1.07 U
   quotient : (q d : ℕ) → 99_599_999 ≤ q → q ≤ 1_002_000_000 → 930_000_000 ≤ d → d ≤ 1_070_000_000 → Between (pos (nearest (q * unit) d)) 90_909_091 1_080_000_000
@@ -296,4 +297,4 @@ module _ (p : Parameters) (ok : Accepted p) where
 
   pub RN-between : Between (RN p) 90_909_091 1_080_000_000
   RN-between =
-      rw RN-is (quotient (natAbs (Rq p)) (natAbs (D (p .e2) (p .lat0 .0))) (Rq-between .least) (Rq-between .most) (D-ok .least) (D-ok .most))
+      rw RN-is (quotient (natAbs (Rq p)) (natAbs (D (p .e2) (p .lat0))) (Rq-between .least) (Rq-between .most) (D-ok .least) (D-ok .most))

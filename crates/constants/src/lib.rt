@@ -8,6 +8,8 @@ use latitudes::to_authalic;
 use parameters::Parameters;
 use parameters::is_pole;
 use integers::near;
+use sine_table::Table;
+use units::UNIT;
 ghost use mathlib.Core.Path.{_≡_};
 ghost use mathlib.Core.Bool.{true};
 ghost use Prim.Native.Nat.{_≤_};
@@ -31,7 +33,7 @@ fn radius_ratio(e2: i64, e4: i64, e6: i64) -> i64
     requires { ⌜ (natAbs e2 ≤ 10_000_000) × (e4 ≡ e4Of e2) × (e6 ≡ e6Of e2) ⌝ }
     ensures { λ r. ⌜ r ≡ J e2 ⌝ }
 {
-    unit_root(1000000000 - near(e2, 3) - near(e4, 15) - near(e6, 35))
+    unit_root(UNIT - near(e2, 3) - near(e4, 15) - near(e6, 35))
 }
 
 // A coefficient in billionths, in mas.
@@ -39,7 +41,7 @@ fn in_mas(k: i64) -> i64
     requires { ⌜ natAbs k ≤ 4_000_000 ⌝ }
     ensures { λ r. ⌜ r ≡ to-mas k ⌝ }
 {
-    product(k, 206264806)
+    product(k, 206_264_806)
 }
 
 // The coefficients of the authalic latitude's series.
@@ -58,28 +60,28 @@ fn series(e2: i64, e4: i64, e6: i64) -> AuthalicSeries
 }
 
 // m: the radius of the parallel of lat0 as a part of the semi-major axis.
-fn parallel_ratio(t: &[u32; 5401], e2: i64, lat0: Geodetic) -> i64
+fn parallel_ratio(t: &Table, e2: i64, lat0: Geodetic) -> i64
     requires { ⌜ IsTable (now t) × (natAbs e2 ≤ 10_000_000) × (natAbs (lat0 .0) ≤ right-angle) ⌝ }
-    ensures { λ r. ⌜ r ≡ m e2 (lat0 .0) ⌝ }
+    ensures { λ r. ⌜ r ≡ m e2 lat0 ⌝ }
 {
     let s = lat0.sine(t);
-    let v = 1000000000 - product(e2, product(s, s));
+    let v = UNIT - product(e2, product(s, s));
     quotient(lat0.cosine(t), unit_root(v))
 }
 
 // D: the ratio of the scales of the two axes; 1 at a pole.
-fn axis_ratio(t: &[u32; 5401], e2: i64, lat0: Geodetic, j: i64, c0: i64) -> i64
-    requires { ⌜ IsTable (now t) × (natAbs e2 ≤ 10_000_000) × (accepted-lat0 (lat0 .0) ≡ true) × (j ≡ J e2) × (c0 ≡ C0 e2 (lat0 .0)) ⌝ }
-    ensures { λ r. ⌜ r ≡ D e2 (lat0 .0) ⌝ }
+fn axis_ratio(t: &Table, e2: i64, lat0: Geodetic, j: i64, c0: i64) -> i64
+    requires { ⌜ IsTable (now t) × (natAbs e2 ≤ 10_000_000) × (accepted-lat0 lat0 ≡ true) × (j ≡ J e2) × (c0 ≡ C0 e2 lat0) ⌝ }
+    ensures { λ r. ⌜ r ≡ D e2 lat0 ⌝ }
 {
-    if is_pole(lat0.0) {
-        return 1000000000;
+    if is_pole(lat0) {
+        return UNIT;
     }
     quotient(parallel_ratio(t, e2, lat0), product(j, c0))
 }
 
 // The constants of an accepted set.
-pub fn constants_of(t: &[u32; 5401], p: Parameters) -> Constants
+pub fn constants_of(t: &Table, p: Parameters) -> Constants
     requires { ⌜ IsTable (now t) × (setRefusal p ≡ 0) ⌝ }
     ensures { λ r. ⌜ r ≡ constantsOf p ⌝ }
 {

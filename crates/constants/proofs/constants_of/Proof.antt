@@ -9,7 +9,7 @@ use Rattle.units.specs.Units.{right-angle}
 use Rattle.trig.specs.Sine.{sine, cosine}
 use Rattle.latitudes.specs.declared.AuthalicSeries.{AuthalicSeries}
 use Rattle.latitudes.specs.declared.Authalic.{Authalic}
-use Rattle.latitudes.proofs.AuthalicLaws.{betaMas}
+use Rattle.latitudes.specs.Latitude.{beta}
 use Rattle.constants.specs.Derived.{e4, e6, J, seriesOf, β0, S0, C0, D, Rq, RD, RN, constantsOf}
 use Rattle.constants.proofs.SeriesLaws.{at-least, e4-size, J-high, series-small}
 use Rattle.parameters.proofs.AcceptedSet.{Accepted, accepted, lat0-size}
@@ -34,7 +34,7 @@ a-is : (c : tie.Start) → back (c .args .p .a) ≡ c .args .p .a
 a-is c = kept (c .args .p .a) (set c .a-between .most) (lit< tt)
 
 φ0-size : (c : tie.Start) → natAbs (c .args .p .lat0 .0) ≤ right-angle
-φ0-size c = lat0-size (c .args .p .lat0 .0) (set c .lat0-accepted)
+φ0-size c = lat0-size (c .args .p .lat0) (set c .lat0-accepted)
 
 -- ---- e4 and e6, for J and the series
 
@@ -77,23 +77,23 @@ to-authalic-requires c κs =
     let start = c .before .before .before .before .before .before in
     (start .pre .0, rw (series-is c) (series-small (start .args .p .e2) (e2-size start)), φ0-size start)
 
-β0-is : (c : tie.After-to-authalic) → c .to-authalic .result .0 ≡ β0 (c .before .before .before .before .before .before .before .args .p .e2) (c .before .before .before .before .before .before .before .args .p .lat0 .0)
+β0-is : (c : tie.After-to-authalic) → c .to-authalic .result ≡ β0 (c .before .before .before .before .before .before .before .args .p .e2) (c .before .before .before .before .before .before .before .args .p .lat0)
 unfolding β0
 β0-is c =
     let start = c .before .before .before .before .before .before .before in
-    ap (λ (b : Authalic). b .0) (c .to-authalic .ensures) ∙ ap (λ (k : AuthalicSeries). betaMas k (start .args .p .lat0 .0)) (series-is (c .before))
+    c .to-authalic .ensures ∙ ap (λ (k : AuthalicSeries). beta k (start .args .p .lat0)) (series-is (c .before))
 
 β0-within : (c : tie.After-to-authalic) → natAbs (c .to-authalic .result .0) ≤ right-angle
 β0-within c =
     let start = c .before .before .before .before .before .before .before in
-    rw (β0-is c) (β0-size (start .args .p .e2) (start .args .p .lat0 .0) (e2-size start) (φ0-size start))
+    rw (β0-is c) (β0-size (start .args .p .e2) (start .args .p .lat0) (e2-size start) (φ0-size start))
 
 cosine-requires : tie.Need-cosine-requires
 cosine-requires c κs = (c .before .before .before .before .before .before .before .pre .0, β0-within c)
 
-c0-is : (c : tie.After-cosine) → back (c .cosine .result) ≡ C0 (c .before .before .before .before .before .before .before .before .args .p .e2) (c .before .before .before .before .before .before .before .before .args .p .lat0 .0)
+c0-is : (c : tie.After-cosine) → back (c .cosine .result) ≡ C0 (c .before .before .before .before .before .before .before .before .args .p .e2) (c .before .before .before .before .before .before .before .before .args .p .lat0)
 unfolding C0
-c0-is c = returned (c .cosine .ok) ∙ c .cosine .ensures ∙ ap cosine (β0-is (c .before))
+c0-is c = returned (c .cosine .ok) ∙ c .cosine .ensures ∙ ap (λ (b : Authalic). cosine (b .0)) (β0-is (c .before))
 
 -- ---- D and Rq
 
@@ -102,13 +102,13 @@ axis-ratio-requires c κs =
     let start = c .before .before .before .before .before .before .before .before in
     rw (e2-is start) (start .pre .0, e2-size start, set start .lat0-accepted, j-is (c .before .before .before), c0-is c)
 
-d-is : (c : tie.After-axis-ratio) → back (c .axis-ratio .result) ≡ D (c .before .before .before .before .before .before .before .before .before .args .p .e2) (c .before .before .before .before .before .before .before .before .before .args .p .lat0 .0)
+d-is : (c : tie.After-axis-ratio) → back (c .axis-ratio .result) ≡ D (c .before .before .before .before .before .before .before .before .before .args .p .e2) (c .before .before .before .before .before .before .before .before .before .args .p .lat0)
 d-is c =
     let start = c .before .before .before .before .before .before .before .before .before in
-    returned (c .axis-ratio .ok) ∙ c .axis-ratio .ensures ∙ ap (λ (e2 : ℤ). D e2 (start .args .p .lat0 .0)) (e2-is start)
+    returned (c .axis-ratio .ok) ∙ c .axis-ratio .ensures ∙ ap (λ (e2 : ℤ). D e2 (start .args .p .lat0)) (e2-is start)
 
-d-between : (c : tie.Start) → Between (D (c .args .p .e2) (c .args .p .lat0 .0)) 930_000_000 1_070_000_000
-d-between c = D-between (c .args .p .e2) (c .args .p .lat0 .0) (e2-size c) (set c .lat0-accepted)
+d-between : (c : tie.Start) → Between (D (c .args .p .e2) (c .args .p .lat0)) 930_000_000 1_070_000_000
+d-between c = D-between (c .args .p .e2) (c .args .p .lat0) (e2-size c) (set c .lat0-accepted)
 
 product-requires-3 : tie.Need-product-requires-3
 product-requires-3 c κs =
@@ -124,9 +124,9 @@ rq-is c = product-is (c .product3 .ok) (c .product3 .ensures) (a-is (c .before .
 sine-requires : tie.Need-sine-requires
 sine-requires c κs = (c .before .before .before .before .before .before .before .before .before .before .before .pre .0, β0-within (c .before .before .before .before))
 
-s0-is : (c : tie.After-sine) → back (c .sine .result) ≡ S0 (c .before .before .before .before .before .before .before .before .before .before .before .before .args .p .e2) (c .before .before .before .before .before .before .before .before .before .before .before .before .args .p .lat0 .0)
+s0-is : (c : tie.After-sine) → back (c .sine .result) ≡ S0 (c .before .before .before .before .before .before .before .before .before .before .before .before .args .p .e2) (c .before .before .before .before .before .before .before .before .before .before .before .before .args .p .lat0)
 unfolding S0
-s0-is c = returned (c .sine .ok) ∙ c .sine .ensures ∙ ap sine (β0-is (c .before .before .before .before .before))
+s0-is c = returned (c .sine .ok) ∙ c .sine .ensures ∙ ap (λ (b : Authalic). sine (b .0)) (β0-is (c .before .before .before .before .before))
 
 product-requires-4 : tie.Need-product-requires-4
 product-requires-4 c κs =

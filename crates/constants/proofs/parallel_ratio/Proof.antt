@@ -22,8 +22,8 @@ use Rattle.constants.proofs.parallel_ratio.Tie as tie
 e2-is : (c : tie.Start) → back (c .args .e2) ≡ c .args .e2
 e2-is c = kept (c .args .e2) (c .pre .1) (lit< tt)
 
-v-about : (c : tie.Start) → About («V» (c .args .e2) (c .args .lat0 .0)) unit 10_000_000
-v-about c = V-about (c .args .e2) (c .args .lat0 .0) (c .pre .1)
+v-about : (c : tie.Start) → About («V» (c .args .e2) (c .args .lat0)) unit 10_000_000
+v-about c = V-about (c .args .e2) (c .args .lat0) (c .pre .1)
 
 sine-requires : tie.Need-sine-requires
 sine-requires c κs = search needs
@@ -42,7 +42,7 @@ product-requires-2 c κs =
     let start = c .before .before in
     rw (e2-is start, square-is c) (omega (arith, start .pre .1, square-size (start .args .lat0 .0)))
 
-v-is : (c : tie.After-product2) → pos unit -ℤ back (c .product2 .result) ≡ «V» (c .before .before .before .args .e2) (c .before .before .before .args .lat0 .0)
+v-is : (c : tie.After-product2) → pos unit -ℤ back (c .product2 .result) ≡ «V» (c .before .before .before .args .e2) (c .before .before .before .args .lat0)
 unfolding «V»
 v-is c =
     ap (λ (z : ℤ). pos unit -ℤ z) (product-is (c .product2 .ok) (c .product2 .ensures) (e2-is (c .before .before .before)) (square-is (c .before)))
@@ -61,7 +61,7 @@ unit-root-requires c κs =
     let v = v-about (c .before .before .before .before) in
     rw (back-is (v-is (c .before)) (v .high) (lit< tt)) (at-least 0 (v .same) zero-le, omega arith)
 
-root-is : (c : tie.After-unit-root) → back (c .unit-root .result) ≡ pos (root (natAbs («V» (c .before .before .before .before .before .args .e2) (c .before .before .before .before .before .args .lat0 .0) *ℤ U)))
+root-is : (c : tie.After-unit-root) → back (c .unit-root .result) ≡ pos (root (natAbs («V» (c .before .before .before .before .before .args .e2) (c .before .before .before .before .before .args .lat0) *ℤ U)))
 root-is c =
     let v = v-about (c .before .before .before .before .before) in
     unit-root-is (c .unit-root .ok) (c .unit-root .ensures) (back-is (v-is (c .before .before)) (v .high) (lit< tt))
@@ -70,9 +70,9 @@ quotient-requires : tie.Need-quotient-requires
 quotient-requires c κs =
     let start = c .before .before .before .before .before in
     let e2 : ℤ = start .args .e2 in
-    let φ0 : ℤ = start .args .lat0 .0 in
+    let φ0 = start .args .lat0 in
     rw (cosine-is (c .before), root-is c)
-    (omega (arith, cosine-size φ0), pos-≤ℤ (omega (arith, V-root-least e2 φ0 (start .pre .1))), omega (arith, V-root-most e2 φ0 (start .pre .1)))
+    (omega (arith, cosine-size (φ0 .0)), pos-≤ℤ (omega (arith, V-root-least e2 φ0 (start .pre .1))), omega (arith, V-root-most e2 φ0 (start .pre .1)))
 
 returns : tie.Need-returns
 unfolding m
