@@ -1,33 +1,30 @@
 -- Laws of the forward steps: how large each of them is.
 -- Assumes nothing.
-use mathlib.Core.Path.{_≡_, refl}
-use Prim.Native.Nat.{ℕ, zero, suc, _<_, _≤_}
+use mathlib.Core.Path.{_≡_}
+use mathlib.Core.Bool.{true}
+use Prim.Native.Nat.{_<_, _≤_}
 use native.Mathlib.Nat.{le-refl}
 use native.Mathlib.Omega.{arith}
 use lib.Dec.{lit<}
-use mathlib.Core.Bool.{true, false}
-use lib.IntN.{ℤ, pos, negℤ, natAbs, _+ℤ_, _-ℤ_, _*ℤ_}
+use lib.IntN.{ℤ, pos, natAbs, _+ℤ_, _-ℤ_, _*ℤ_}
 use lib.Signed.{_≤ℤ_}
 use Rattle.proof_kit.proofs.Size.{abs-mul, abs-mul-le, abs-add-le, abs-sub-le}
 use Rattle.proof_kit.proofs.Order.{order, pos-abs, pos-≤, ≤ℤ-trans}
 use Rattle.integers.specs.Near.{near}
 use Rattle.integers.proofs.Rounding.{near-at-most}
 use Rattle.integers.proofs.Squares.{root-least, root-most}
+use Rattle.integers.proofs.Greatest.{both}
 use Rattle.units.specs.Units.{unit, right-angle, half-turn, U}
+use Rattle.units.specs.Spans.{inside}
+use Rattle.units.proofs.Spans.{within-size}
 use Rattle.trig.specs.Sine.{sine, cosine}
 use Rattle.trig.proofs.Interface.{sine-size, cosine-size}
-use Rattle.constants.specs.declared.Constants.{Constants}
-use Rattle.latitudes.proofs.AuthalicLaws.{betaMas}
-use Rattle.constants.specs.Derived.{constantsOf, BoundedCentre}
 use Rattle.latitudes.specs.declared.Geodetic.{Geodetic}
-use Rattle.parameters.specs.declared.Parameters.{Parameters}
-use Rattle.azimuthal_forward.specs.declared.PlaneAnswer.the-variants.{Plane, Refused}
-use Rattle.units.specs.Spans.{within}
-use Rattle.parameters.specs.ParameterSet.{setRefusal}
-use Rattle.integers.proofs.Greatest.{both}
-use Rattle.units.proofs.Spans.{within-size}
-use Rattle.azimuthal_forward.specs.Steps.{H, b, c, u, v, w, G, dE, dN, near-enough, forwardPoint}
-use Rattle.azimuthal_forward.specs.Answer.{nearness, on-globe, forwardOf}
+use Rattle.latitudes.specs.Latitude.{beta}
+use Rattle.constants.specs.declared.Constants.{Constants}
+use Rattle.constants.specs.Derived.{BoundedCentre}
+use Rattle.azimuthal_forward.specs.Steps.{H, b, c, u, v, w, G}
+use Rattle.azimuthal_forward.specs.Answer.{on-globe}
 
 some : 0 < unit
 some = lit< tt
@@ -40,18 +37,19 @@ pub sum-size : (x y z t : ℤ) → natAbs x ≤ unit → natAbs y ≤ unit → n
 sum-size x y z t hx hy hz ht =
     near-at-most (x *ℤ y +ℤ z *ℤ t) unit 2_000_000_000 some (abs-add-le (x *ℤ y) (z *ℤ t) (abs-mul-le x y hx hy) (abs-mul-le z t hz ht))
 
-pub difference-size : (x y z t : ℤ) → natAbs x ≤ unit → natAbs y ≤ unit → natAbs z ≤ unit → natAbs t ≤ unit → natAbs (near (x *ℤ y -ℤ z *ℤ t) unit) ≤ 2_000_000_000
+pub difference-size : (x y z t : ℤ) → natAbs x ≤ unit → natAbs y ≤ unit → natAbs z ≤ unit → natAbs t ≤ unit →
+    natAbs (near (x *ℤ y -ℤ z *ℤ t) unit) ≤ 2_000_000_000
 difference-size x y z t hx hy hz ht =
     near-at-most (x *ℤ y -ℤ z *ℤ t) unit 2_000_000_000 some (abs-sub-le (x *ℤ y) (z *ℤ t) (abs-mul-le x y hx hy) (abs-mul-le z t hz ht))
 
-module _ (k : Constants) (φ Δ : ℤ) where
+module _ (k : Constants) (φ : Geodetic) (Δ : ℤ) where
   pub b-size : natAbs (b k φ Δ) ≤ unit
   unfolding b
-  b-size = sine-size (betaMas (k .series) φ)
+  b-size = sine-size (beta (k .series) φ .0)
 
   pub c-size : natAbs (c k φ Δ) ≤ unit
   unfolding c
-  c-size = cosine-size (betaMas (k .series) φ)
+  c-size = cosine-size (beta (k .series) φ .0)
 
   pub u-size : natAbs (u k φ Δ) ≤ unit
   unfolding u
@@ -61,16 +59,16 @@ module _ (k : Constants) (φ Δ : ℤ) where
   unfolding v
   v-size = product-size (c k φ Δ) (cosine Δ) c-size (cosine-size Δ)
 
-module _ (k : Constants) (turned : BoundedCentre k) (φ Δ : ℤ) where
+module _ (k : Constants) (centre : BoundedCentre k) (φ : Geodetic) (Δ : ℤ) where
   pub w-size : natAbs (w k φ Δ) ≤ 2_000_000_000
   unfolding w
-  w-size = difference-size (k .c0) (b k φ Δ) (k .s0) (v k φ Δ) (turned .c0-size) (b-size k φ Δ) (turned .s0-size) (v-size k φ Δ)
+  w-size = difference-size (k .c0) (b k φ Δ) (k .s0) (v k φ Δ) (centre .c0-size) (b-size k φ Δ) (centre .s0-size) (v-size k φ Δ)
 
   pub G-size : natAbs (G k φ Δ) ≤ 3_000_000_000
   unfolding G
   G-size =
       abs-add-le U (near (k .s0 *ℤ b k φ Δ +ℤ k .c0 *ℤ v k φ Δ) unit) (le-refl unit)
-      (sum-size (k .s0) (b k φ Δ) (k .c0) (v k φ Δ) (turned .s0-size) (b-size k φ Δ) (turned .c0-size) (v-size k φ Δ))
+      (sum-size (k .s0) (b k φ Δ) (k .c0) (v k φ Δ) (centre .s0-size) (b-size k φ Δ) (centre .c0-size) (v-size k φ Δ))
 
 -- ---- H
 
@@ -91,5 +89,5 @@ H-most g h = root-most (natAbs (g *ℤ pos 500_000_000)) 1_500_000_000 (rw (abs-
 pub globe-sizes : (φ : Geodetic) (lon : ℤ) → on-globe φ lon ≡ true → (natAbs (φ .0) ≤ right-angle) × (natAbs lon ≤ half-turn)
 unfolding on-globe
 globe-sizes φ lon e =
-    let t = both (within (negℤ (pos right-angle)) (pos right-angle) (φ .0)) (within (negℤ (pos half-turn)) (pos half-turn) lon) e in
+    let t = both (inside right-angle (φ .0)) (inside half-turn lon) e in
     (within-size right-angle (φ .0) (t .0), within-size half-turn lon (t .1))

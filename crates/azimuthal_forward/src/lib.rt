@@ -4,14 +4,22 @@ use billionths::product;
 use billionths::sum;
 use constants::Constants;
 use constants::constants_of;
+use integers::near;
+use integers::root;
 use latitudes::Geodetic;
 use latitudes::to_authalic;
 use parameters::Parameters;
-use units::are_within;
-use integers::near;
-use integers::root;
+use sine_table::Table;
 use trig::cosine;
 use trig::sine;
+use units::LATITUDE_LEAST;
+use units::LATITUDE_MOST;
+use units::LONGITUDE_LEAST;
+use units::LONGITUDE_MOST;
+use units::UNIT;
+use units::are_within;
+use units::refusals::OUT_OF_LIMITS;
+use units::refusals::TOO_FAR;
 ghost use mathlib.Core.Path.{_≡_};
 ghost use Prim.Native.Nat.{_≤_, _*_};
 ghost use lib.IntN.{ℤ, pos, natAbs, _+ℤ_, _*ℤ_};
@@ -19,10 +27,9 @@ ghost use lib.Signed.{_≤ℤ_};
 ghost use Rattle.integers.specs.Near.{near as nearOf};
 ghost use Rattle.sine_table.specs.Table.{IsTable};
 ghost use Rattle.units.specs.Units.{right-angle, full-turn};
-ghost use Rattle.parameters.specs.ParameterSet.{setRefusal};
 ghost use Rattle.latitudes.specs.Latitude.{SmallSeries};
-ghost use Rattle.constants.specs.Derived.{constantsOf, BoundedCentre};
-ghost use Rattle.azimuthal_forward.specs.Steps.{H as scaleOf, directionOf, forwardPoint};
+ghost use Rattle.constants.specs.Derived.{BoundedCentre, Prepared};
+ghost use Rattle.azimuthal_forward.specs.Steps.{H as scaleOf, directionOf};
 ghost use Rattle.azimuthal_forward.specs.Answer.{on-globe, forwardOf, plane-told, forwardTold};
 
 // Easting and northing in cm, or the refusal number alone.
@@ -38,18 +45,24 @@ pub struct Direction {
     pub g: i64,
 }
 
+// Half of U.
+const HALF_UNIT: i64 = 500_000_000;
+
+// A nearness below this is refused 4.
+pub const LEAST_NEARNESS: i64 = 20_000_000;
+
 // H = root(G·500,000,000)
 pub fn scale(g: i64) -> u64
     requires { ⌜ (pos 0 ≤ℤ g) × (natAbs g ≤ 4_000_000_000) ⌝ }
     ensures { λ r. ⌜ r ≡ scaleOf g ⌝ }
 {
-    root((g * 500000000) as u64)
+    root((g * HALF_UNIT) as u64)
 }
 
 // The direction of a latitude and a longitude difference d.
-pub fn direction_of(t: &[u32; 5401], k: Constants, lat: Geodetic, d: i64) -> Direction
+pub fn direction_of(t: &Table, k: Constants, lat: Geodetic, d: i64) -> Direction
     requires { ⌜ IsTable (now t) × SmallSeries (k .series) × BoundedCentre k × (natAbs (lat .0) ≤ right-angle) × (natAbs d ≤ full-turn) ⌝ }
-    ensures { λ r. ⌜ r ≡ directionOf k (lat .0) d ⌝ }
+    ensures { λ r. ⌜ r ≡ directionOf k lat d ⌝ }
 {
     let series = k.series;
     let s0 = k.s0;
@@ -61,7 +74,7 @@ pub fn direction_of(t: &[u32; 5401], k: Constants, lat: Geodetic, d: i64) -> Dir
     Direction {
         u: product(c, sine(t, d)),
         w: difference(c0, b, s0, v),
-        g: 1000000000 + sum(s0, b, c0, v),
+        g: UNIT + sum(s0, b, c0, v),
     }
 }
 
@@ -69,7 +82,14 @@ pub fn direction_of(t: &[u32; 5401], k: Constants, lat: Geodetic, d: i64) -> Dir
 fn is_on_globe(lat: Geodetic, lon: i64) -> bool
     ensures { λ r. ⌜ r ≡ on-globe lat lon ⌝ }
 {
-    are_within(-324000000, 324000000, lat.0, -648000000, 648000000, lon)
+    are_within(
+        LATITUDE_LEAST,
+        LATITUDE_MOST,
+        lat.0,
+        LONGITUDE_LEAST,
+        LONGITUDE_MOST,
+        lon,
+    )
 }
 
 // A plane coordinate: the false one plus near(r·x/h).
@@ -81,23 +101,17 @@ fn coordinate(origin: i64, r: i64, x: i64, h: u64) -> i64
 }
 
 // A position with an accepted set and its constants.
-pub fn forward_point(
-    t: &[u32; 5401],
-    p: Parameters,
-    k: Constants,
-    lat: Geodetic,
-    lon: i64,
-) -> PlaneAnswer
-    requires { ⌜ IsTable (now t) × (setRefusal p ≡ 0) × (k ≡ constantsOf p) ⌝ }
-    ensures { λ r. ⌜ r ≡ forwardPoint p lat lon ⌝ }
+pub fn forward_point(t: &Table, p: Parameters, k: Constants, lat: Geodetic, lon: i64) -> PlaneAnswer
+    requires { ⌜ Prepared (now t) p k ⌝ }
+    ensures { λ r. ⌜ r ≡ forwardOf p lat lon ⌝ }
 {
     if !is_on_globe(lat, lon) {
-        return PlaneAnswer::Refused(3);
+        return PlaneAnswer::Refused(OUT_OF_LIMITS);
     }
     let to = direction_of(t, k, lat, lon - p.lon0);
     let g = to.g;
-    if g < 20000000 {
-        return PlaneAnswer::Refused(4);
+    if g < LEAST_NEARNESS {
+        return PlaneAnswer::Refused(TOO_FAR);
     }
     let h = scale(g);
     PlaneAnswer::Plane {

@@ -2,12 +2,12 @@
 use billionths::product;
 use billionths::quotient;
 use billionths::unit_root;
+use integers::near;
 use latitudes::AuthalicSeries;
 use latitudes::Geodetic;
 use latitudes::to_authalic;
 use parameters::Parameters;
 use parameters::is_pole;
-use integers::near;
 use sine_table::Table;
 use units::UNIT;
 ghost use mathlib.Core.Path.{_≡_};

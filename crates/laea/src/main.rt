@@ -1,9 +1,9 @@
 // Reads lines from standard input and answers each on standard output, for ETRS-LAEA in whole units.
 use constants::Constants;
 use constants::constants_of;
-use parameters::Parameters;
 use libc::STDIN_FILENO;
 use libc::STDOUT_FILENO;
+use parameters::Parameters;
 use splitter::pieces::Carried;
 use splitter::pieces::answer_last;
 use splitter::pieces::answer_piece;

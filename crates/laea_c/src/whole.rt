@@ -1,12 +1,12 @@
 // One point, in mas and cm; and the cell of a position.
 use crate::parameters::set;
-use cells::CellAnswer;
-use cells::cell;
-use latitudes::Geodetic;
 use azimuthal_forward::PlaneAnswer;
 use azimuthal_forward::forward;
 use azimuthal_inverse::GeodeticAnswer;
 use azimuthal_inverse::inverse;
+use cells::CellAnswer;
+use cells::cell;
+use latitudes::Geodetic;
 ghost use Rattle.cells.specs.Cells.{cellTold};
 ghost use Rattle.azimuthal_forward.specs.Answer.{forwardTold};
 ghost use Rattle.azimuthal_inverse.specs.Answer.{inverseTold};

@@ -128,13 +128,7 @@ fn is_bracketed(t: &Table, k: AuthalicSeries, beta: Authalic, low: u64, high: u6
 
 // The greatest such latitude: searches the span of this margin about the estimate, or where that
 // does not hold it a wider one, up to all latitudes.
-fn search_near(
-    t: &Table,
-    k: AuthalicSeries,
-    beta: Authalic,
-    estimate: u64,
-    margin: u64,
-) -> u64
+fn search_near(t: &Table, k: AuthalicSeries, beta: Authalic, estimate: u64, margin: u64) -> u64
     requires { ⌜ IsTable (now t) × SmallSeries k × (natAbs (beta .0) ≤ right-angle) × (estimate ≤ half-turn) × (margin ≤ 12_000_000_000) ⌝ }
     ensures { λ r. ⌜ r ≡ greatest (not-above k beta) half-turn ⌝ }
 {

@@ -2,14 +2,14 @@
 use crate::numbers::Numeral;
 use crate::numbers::put_number;
 use crate::numbers::read_number;
-use constants::Constants;
-use constants::constants_of;
-use latitudes::Geodetic;
-use parameters::Parameters;
 use azimuthal_forward::PlaneAnswer;
 use azimuthal_forward::forward_point;
 use azimuthal_inverse::GeodeticAnswer;
 use azimuthal_inverse::inverse_point;
+use constants::Constants;
+use constants::constants_of;
+use latitudes::Geodetic;
+use parameters::Parameters;
 ghost use mathlib.Core.Path.{_≡_};
 ghost use Prim.Native.Nat.{_+_, _≤_};
 ghost use mathlib.Core.List.{_++_};

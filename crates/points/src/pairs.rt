@@ -1,12 +1,12 @@
 // Pairs of f64, the answers that carry them, and their tests and conversions.
+use azimuthal_forward::PlaneAnswer;
+use azimuthal_inverse::GeodeticAnswer;
 use floats::cm_to_metres;
 use floats::is_finite;
 use floats::is_latitude;
 use floats::is_longitude;
 use floats::is_plane;
 use floats::mas_to_degrees;
-use azimuthal_forward::PlaneAnswer;
-use azimuthal_inverse::GeodeticAnswer;
 ghost use mathlib.Core.Path.{_≡_};
 ghost use Rattle.points.specs.Points.{areFinite, onGlobe, onPlane, inMetres, inDegrees};
 

@@ -1,10 +1,10 @@
 // Demand 3: the round trip. The statement is in specs/RoundTrip.antt, its proof in proofs/.
-use latitudes::Geodetic;
-use parameters::Parameters;
 use azimuthal_forward::PlaneAnswer;
 use azimuthal_forward::forward;
 use azimuthal_inverse::GeodeticAnswer;
 use azimuthal_inverse::inverse;
+use latitudes::Geodetic;
+use parameters::Parameters;
 ghost use mathlib.Core.Path.{_≡_};
 ghost use Rattle.azimuthal_forward.specs.Answer.{forwardOf};
 ghost use Rattle.round_trip.specs.RoundTrip.{latitude-bound, gap-bound, RoundTripAt, thereAndBack};

@@ -152,7 +152,11 @@ fn arctangent_minutes(x: u64) -> u64
     ensures { λ k. ⌜ k ≤ 5400 ⌝ }
 {
     let square = part(x, x);
-    part(3_503_912 - part(1_016_263 - part(279_293, square), square), x) / 1024
+    part(
+        3_503_912 - part(1_016_263 - part(279_293, square), square),
+        x,
+    )
+        / 1024
 }
 
 // angle(p, q) to within 4 minutes.

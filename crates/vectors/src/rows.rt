@@ -3,6 +3,9 @@
 use crate::sizes::along_meridian;
 use crate::sizes::along_parallel;
 use crate::sizes::gap;
+use azimuthal_forward::PlaneAnswer;
+use azimuthal_inverse::GeodeticAnswer;
+use azimuthal_inverse::inverse;
 use latitudes::Geodetic;
 use parameters::Parameters;
 use printing::number;
@@ -11,9 +14,6 @@ use printing::size;
 use printing::verdict;
 use printing::words;
 use printing::words::word;
-use azimuthal_forward::PlaneAnswer;
-use azimuthal_inverse::GeodeticAnswer;
-use azimuthal_inverse::inverse;
 
 // A set by its numbers, in the order of document 01's table.
 pub(crate) fn set(

@@ -1,8 +1,8 @@
 // How far the answer is from the position put in, in document 01's terms.
+use integers::magnitude;
 use latitudes::AuthalicSeries;
 use latitudes::Geodetic;
 use latitudes::to_authalic;
-use integers::magnitude;
 ghost use Prim.Native.Nat.{_≤_};
 ghost use lib.IntN.{natAbs};
 ghost use Rattle.sine_table.specs.Table.{IsTable};

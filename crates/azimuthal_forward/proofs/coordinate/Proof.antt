@@ -27,7 +27,8 @@ quotient-is c =
     c .near .ensures
     ∙ ap (λ (n : ℤ). near n (c .before .args .h)) (read (search (code, c .before .pre .1, c .before .pre .2) depth 40 fits 20000) tt)
 
-quotient-size : (r x : ℤ) (h : ℕ) → natAbs r ≤ 1_080_000_000 → natAbs x ≤ 2_000_000_000 → 100_000_000 ≤ h → h ≤ 1_500_000_000 → natAbs (near (r *ℤ x) h) ≤ 2_170_000_000_000_000_000
+quotient-size : (r x : ℤ) (h : ℕ) → natAbs r ≤ 1_080_000_000 → natAbs x ≤ 2_000_000_000 → 100_000_000 ≤ h → h ≤ 1_500_000_000 →
+    natAbs (near (r *ℤ x) h) ≤ 2_170_000_000_000_000_000
 quotient-size r x h hr hx low high =
     rw (near-size (r *ℤ x) h) (omega (arith, nearest-le (natAbs (r *ℤ x)) h (omega arith), abs-mul-le r x hr hx))
 

@@ -22,7 +22,8 @@ returns : tie.Need-returns
 unfolding on-globe
 returns c =
     c .are-within .ensures
-    ∙ ap₂ (λ (x y : ℤ). within (negℤ (pos right-angle)) (pos right-angle) x && within (negℤ (pos half-turn)) (pos half-turn) y) (toZ-ofZ (latitude-fits (c .before))) (toZ-ofZ (c .before .before .fits .lon))
+    ∙ ap₂ (λ (x y : ℤ). within (negℤ (pos right-angle)) (pos right-angle) x && within (negℤ (pos half-turn)) (pos half-turn) y)
+    (toZ-ofZ (latitude-fits (c .before))) (toZ-ofZ (c .before .before .fits .lon))
 
 pub is-on-globe-spec : {M : Type 1} → statement M
 is-on-globe-spec = tie.close (tie.spec are-within-requires returns)

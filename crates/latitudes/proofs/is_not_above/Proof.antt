@@ -34,7 +34,7 @@ returns c =
     let φ = from-south-pole (start .args .n) in
     let found : called .result ≡ beta k φ = called .ensures ∙ ap (λ (x : ℤ). beta k (record { 0 = x })) (counted (start .args .n) (start .pre .3)) in
     let size : natAbs (beta k φ .0) ≤ right-angle =
-        beta-size k (start .pre .1) (φ .0) (from-south-pole-size (start .args .n) (start .pre .3)) in
+    beta-size k (start .pre .1) (φ .0) (from-south-pole-size (start .args .n) (start .pre .3)) in
     ap₂ leZ
     (ap (λ (b : Authalic). toZ w64 (ofZ w64 (b .0))) found ∙ kept (beta k φ .0) size (lit< tt))
     (kept (start .args .beta .0) (start .pre .2) (lit< tt))
