@@ -1,4 +1,5 @@
--- Laws of the angles that the inverse steps give: an angle of two numbers is at most 90°, so a latitude is too, and a longitude from the centre's is at most 180°.
+-- Laws of the angles that the inverse steps give: an angle of two numbers is at most 90°, so a latitude is too, and a longitude
+-- from the centre's is at most 180°.
 -- Assumes nothing.
 use mathlib.Core.Path.{_≡_}
 use mathlib.Core.Bool.{Bool, true, false, cond, _&&_}

@@ -1,8 +1,8 @@
--- Laws of the inverse steps: how large each of them is, and the answer by the tests that decide it.
+-- Laws of the inverse steps: how large each of them is.
 -- Assumes nothing.
 use mathlib.Core.Path.{_≡_, refl, ap₂, _∙_, subst}
-use mathlib.Core.Bool.{true, false}
-use Prim.Native.Nat.{ℕ, zero, suc, _+_, _*_, _<_, _≤_}
+use mathlib.Core.Bool.{true}
+use Prim.Native.Nat.{ℕ, _+_, _*_, _<_, _≤_}
 use native.Mathlib.Nat.{le-refl, le-trans}
 use native.Mathlib.Omega.{arith}
 use lib.Dec.{lit<}
@@ -14,37 +14,33 @@ use Rattle.proof_kit.proofs.Order.{order, pos-abs, pos-≤ℤ}
 use Rattle.integers.specs.Near.{near, nearest}
 use Rattle.integers.proofs.Rounding.{near-at-most, near-pos}
 use Rattle.integers.proofs.Squares.{root-most}
-use Rattle.units.specs.Units.{unit, U}
-use Rattle.constants.specs.declared.Constants.{Constants}
-use Rattle.parameters.specs.declared.Parameters.{Parameters}
-use Rattle.azimuthal_inverse.specs.declared.GeodeticAnswer.the-variants.{Position, Refused}
-use Rattle.units.specs.Spans.{within, on-plane}
-use Rattle.parameters.specs.ParameterSet.{setRefusal}
-use Rattle.constants.specs.Derived.{constantsOf, BoundedCentre}
-use Rattle.azimuthal_forward.specs.Steps.{H, near-enough}
-use Rattle.azimuthal_inverse.specs.Steps.{versineOf, G, up, level, zOf, fOf, pointOf, SmallPoint, positionOf, at-origin, on-map, X, Y, K, found, unprojected, inversePoint}
-use Rattle.azimuthal_inverse.specs.Answer.{inverseOf}
 use Rattle.integers.proofs.Greatest.{both}
+use Rattle.units.specs.Units.{unit, U}
+use Rattle.units.specs.Spans.{within}
 use Rattle.units.proofs.Spans.{within-size}
+use Rattle.constants.specs.declared.Constants.{Constants}
+use Rattle.constants.specs.Derived.{BoundedCentre}
 use Rattle.constants.proofs.ConstantsLaws.{Sound}
+use Rattle.azimuthal_forward.specs.Steps.{H}
+use Rattle.azimuthal_inverse.specs.Steps.{versineOf, G, up, level, zOf, fOf, pointOf, SmallPoint, on-map, X, Y, K}
 
 some : 0 < unit
 some = lit< tt
 
 -- ---- K, and what follows from it
 
-pub drop-natural : (X Y : ℤ) → pos (natAbs (versineOf X Y)) ≡ versineOf X Y
+pub versine-natural : (X Y : ℤ) → pos (natAbs (versineOf X Y)) ≡ versineOf X Y
 unfolding versineOf
-drop-natural X Y = rw (whole X Y) refl
+versine-natural X Y = rw (whole X Y) refl
   where
     whole : (X Y : ℤ) → near (X *ℤ X +ℤ Y *ℤ Y) (2 * unit) ≡ pos (nearest (natAbs X * natAbs X + natAbs Y * natAbs Y) (2 * unit))
     whole X Y =
         ap₂ (λ (a b : ℤ). near (a +ℤ b) (2 * unit)) (square-abs X) (square-abs Y)
         ∙ near-pos (natAbs X * natAbs X + natAbs Y * natAbs Y) (2 * unit)
 
-pub drop-size : (X Y : ℤ) → natAbs X ≤ 2_000_000_000 → natAbs Y ≤ 2_000_000_000 → natAbs (versineOf X Y) ≤ 4_000_000_000
+pub versine-size : (X Y : ℤ) → natAbs X ≤ 2_000_000_000 → natAbs Y ≤ 2_000_000_000 → natAbs (versineOf X Y) ≤ 4_000_000_000
 unfolding versineOf
-drop-size X Y hx hy =
+versine-size X Y hx hy =
     near-at-most (X *ℤ X +ℤ Y *ℤ Y) (2 * unit) 4_000_000_000 (lit< tt) (abs-add-le (X *ℤ X) (Y *ℤ Y) (abs-mul-le X X hx hx) (abs-mul-le Y Y hy hy))
 
 -- K from 0 to 1.98 U, as it is where the point is not refused
@@ -59,7 +55,12 @@ module _ (K : ℤ) (least : pos 0 ≤ℤ K) (most : natAbs K ≤ 1_980_000_000) 
   pub G-most : natAbs (G K) ≤ 2_000_000_000
   unfolding G
   G-most =
-      rw (← natural) (omega (arith, natAbs-parts (pos 2_000_000_000 -ℤ pos (natAbs K)), parts-- (pos 2_000_000_000) (pos (natAbs K)), one-part (pos 2_000_000_000 -ℤ pos (natAbs K))))
+      rw (← natural) (omega (
+        arith,
+        natAbs-parts (pos 2_000_000_000 -ℤ pos (natAbs K)),
+        parts-- (pos 2_000_000_000) (pos (natAbs K)),
+        one-part (pos 2_000_000_000 -ℤ pos (natAbs K)),
+      ))
 
   pub up-size : natAbs (up K) ≤ 1_000_000_000
   unfolding up
@@ -77,17 +78,22 @@ module _ (K : ℤ) (least : pos 0 ≤ℤ K) (most : natAbs K ≤ 1_980_000_000) 
 
   pub point-sized : (c : Constants) → BoundedCentre c → (X Y : ℤ) → natAbs X ≤ 2_000_000_000 → natAbs Y ≤ 2_000_000_000 → SmallPoint (pointOf c X Y K)
   unfolding pointOf zOf fOf
-  point-sized c turned X Y hx hy =
+  point-sized c centre X Y hx hy =
       let n = level-size Y hy in
       record {
         east-size = level-size X hx;
-        z-size = near-at-most (up K *ℤ c .s0 +ℤ level K Y *ℤ c .c0) unit 3_000_000_000 some (abs-add-le (up K *ℤ c .s0) (level K Y *ℤ c .c0) (abs-mul-le (up K) (c .s0) up-size (turned .s0-size)) (abs-mul-le (level K Y) (c .c0) n (turned .c0-size)));
-        f-size = near-at-most (up K *ℤ c .c0 -ℤ level K Y *ℤ c .s0) unit 3_000_000_000 some (abs-sub-le (up K *ℤ c .c0) (level K Y *ℤ c .s0) (abs-mul-le (up K) (c .c0) up-size (turned .c0-size)) (abs-mul-le (level K Y) (c .s0) n (turned .s0-size)));
+        z-size = near-at-most (up K *ℤ c .s0 +ℤ level K Y *ℤ c .c0) unit 3_000_000_000 some
+            (abs-add-le (up K *ℤ c .s0) (level K Y *ℤ c .c0) (abs-mul-le (up K) (c .s0) up-size (centre .s0-size))
+            (abs-mul-le (level K Y) (c .c0) n (centre .c0-size)));
+        f-size = near-at-most (up K *ℤ c .c0 -ℤ level K Y *ℤ c .s0) unit 3_000_000_000 some
+            (abs-sub-le (up K *ℤ c .c0) (level K Y *ℤ c .s0) (abs-mul-le (up K) (c .c0) up-size (centre .c0-size))
+            (abs-mul-le (level K Y) (c .s0) n (centre .s0-size)));
       }
 
 -- ---- X and Y of a point on the map: at most 2 U
 
-ratio-size : (d r : ℤ) → pos (natAbs r) ≡ r → 0 < natAbs r → within (negℤ (pos 2 *ℤ r)) (pos 2 *ℤ r) d ≡ true → (natAbs d ≤ 2 * natAbs r) × (natAbs (near (d *ℤ U) (natAbs r)) ≤ 2_000_000_000)
+ratio-size : (d r : ℤ) → pos (natAbs r) ≡ r → 0 < natAbs r → within (negℤ (pos 2 *ℤ r)) (pos 2 *ℤ r) d ≡ true →
+    (natAbs d ≤ 2 * natAbs r) × (natAbs (near (d *ℤ U) (natAbs r)) ≤ 2_000_000_000)
 ratio-size d r natural-r some-r e =
     let n : ℕ = natAbs r in
     let size : natAbs d ≤ 2 * n = within-size (2 * n) d (rw (← natural-r) at e) in
@@ -114,7 +120,7 @@ map-sizes c k dE dN e =
 
 pub K-natural : (c : Constants) (dE dN : ℤ) → pos (natAbs (K c dE dN)) ≡ K c dE dN
 unfolding K
-K-natural c dE dN = drop-natural (X c dE) (Y c dN)
+K-natural c dE dN = versine-natural (X c dE) (Y c dN)
 
 -- a point that is near enough has K from 0 to 1.98 U
 pub K-near : (K : ℤ) → pos (natAbs K) ≡ K → pos 20_000_000 ≤ℤ G K → (pos 0 ≤ℤ K) × (natAbs K ≤ 1_980_000_000)
@@ -123,46 +129,3 @@ K-near K natural-K h =
     let n : ℕ = natAbs K in
     let l : pos 20_000_000 ≤ℤ (pos 2_000_000_000 -ℤ pos n) = rw (← natural-K) at h in
     (subst (λ (z : ℤ). pos 0 ≤ℤ z) natural-K (pos-≤ℤ (omega arith)), omega (order, l, parts-- (pos 2_000_000_000) (pos n)))
-
--- ---- the answer, by the tests that decide it
-
-module _ (p : Parameters) (c : Constants) (dE dN : ℤ) where
-  pub unprojected-origin : at-origin dE dN ≡ true → unprojected p c dE dN ≡ Position (p .lat0) (p .lon0)
-  unfolding unprojected
-  unprojected-origin e = rw e
-
-  pub unprojected-off-map : at-origin dE dN ≡ false → on-map c dE dN ≡ false → unprojected p c dE dN ≡ Refused 4
-  unfolding unprojected
-  unprojected-off-map e f = rw (e, f)
-
-  pub unprojected-too-far : at-origin dE dN ≡ false → on-map c dE dN ≡ true → near-enough (G (K c dE dN)) ≡ false → unprojected p c dE dN ≡ Refused 4
-  unfolding unprojected
-  unprojected-too-far e f g = rw (e, f, g)
-
-  pub unprojected-position :
-      at-origin dE dN ≡ false →
-      on-map c dE dN ≡ true →
-      near-enough (G (K c dE dN)) ≡ true →
-      unprojected p c dE dN ≡ positionOf (c .series) (p .lon0) (found c dE dN)
-  unfolding unprojected
-  unprojected-position e f g = rw (e, f, g)
-
-module _ (p : Parameters) (E N : ℤ) where
-  pub inverse-off-plane : on-plane E N ≡ false → inversePoint p E N ≡ Refused 3
-  unfolding inversePoint
-  inverse-off-plane e = rw e
-
-  pub inverse-on-plane :
-      on-plane E N ≡ true →
-      inversePoint p E N ≡ unprojected p (constantsOf p) (E -ℤ p .«false_easting») (N -ℤ p .«false_northing»)
-  unfolding inversePoint
-  inverse-on-plane e = rw e
-
-  pub inverse-of-accepted : setRefusal p ≡ 0 → inverseOf p E N ≡ inversePoint p E N
-  unfolding inverseOf
-  inverse-of-accepted e = rw e
-
-  pub inverse-of-refused : (n : ℕ) → (n ≡ 0 → ⊥) → setRefusal p ≡ n → inverseOf p E N ≡ Refused n
-  unfolding inverseOf
-  inverse-of-refused zero some-number e = absurd (some-number refl)
-  inverse-of-refused (suc n) some-number e = rw e

@@ -6,6 +6,7 @@ use Rattle.units.specs.Spans.{on-plane, wrapped}
 use Rattle.units.specs.Refusals.{out-of-limits, too-far, unless, firstOf}
 use Rattle.units.specs.Answers.{Told, accepted, refused, told}
 use Rattle.latitudes.specs.declared.Geodetic.{Geodetic}
+use Rattle.latitudes.specs.declared.AuthalicSeries.{AuthalicSeries}
 use Rattle.latitudes.specs.Latitude.{geodetic}
 use Rattle.parameters.specs.declared.Parameters.{Parameters}
 use Rattle.parameters.specs.ParameterSet.{setRefusal}
@@ -14,11 +15,21 @@ use Rattle.constants.specs.Derived.{constantsOf}
 use Rattle.azimuthal_forward.specs.Steps.{near-enough}
 use Rattle.azimuthal_inverse.specs.declared.GeodeticAnswer.{GeodeticAnswer}
 use Rattle.azimuthal_inverse.specs.declared.GeodeticAnswer.the-variants.{Position, Refused}
+use Rattle.azimuthal_inverse.specs.declared.SpherePoint.{SpherePoint}
 use Rattle.azimuthal_inverse.specs.Steps.{at-origin, on-map, K, G, found, latitudeOf, longitudeOf}
+
+-- latitude and longitude in mas where the refusal number is 0, else the number alone
+abbrev pub geodeticAnswer : ℕ → Geodetic → ℤ → GeodeticAnswer
+geodeticAnswer zero φ lon = Position φ lon
+geodeticAnswer (suc n) φ lon = Refused (suc n)
+
+-- the position of a point of the sphere
+abbrev pub positionOf : AuthalicSeries → ℤ → SpherePoint → GeodeticAnswer
+positionOf series lon0 s = Position (geodetic series (latitudeOf s)) (wrapped (lon0 +ℤ longitudeOf s))
 
 -- A set, its constants and a point counted from the false origin: "dE = E − FE, dN = N − FN".
 module _ (p : Parameters) (k : Constants) (dE dN : ℤ) where
-  -- "Both zero: answer (φ0, lon0)", so 4 is not asked there. "dE beyond ±2·RD or dN beyond ±2·RN: refused 4"; "G = 2U − K; under 20,000,000: refused 4"
+  -- "Both zero: answer (φ0, lon0)", so 4 is not asked there. "dE beyond ±2·RD or dN beyond ±2·RN: refused 4"; "under 20,000,000: refused 4"
   unfoldable pub farFrom : ℕ
   farFrom =
       cond (at-origin dE dN) 0 (unless (on-map k dE dN) too-far (unless (near-enough (G (K k dE dN))) too-far 0))
@@ -29,6 +40,9 @@ module _ (p : Parameters) (k : Constants) (dE dN : ℤ) where
   -- "lon = lon0 + Δ brought above −180° and to at most 180°"
   unfoldable pub longitudeFrom : ℤ
   longitudeFrom = cond (at-origin dE dN) (p .lon0) (wrapped (p .lon0 +ℤ longitudeOf (found k dE dN)))
+
+  abbrev pub answerFrom : GeodeticAnswer
+  answerFrom = geodeticAnswer farFrom latitudeFrom longitudeFrom
 
 -- A set, an easting and a northing.
 module _ (p : Parameters) (E N : ℤ) where
@@ -44,11 +58,6 @@ module _ (p : Parameters) (E N : ℤ) where
 
   unfoldable pub inverseLongitude : ℤ
   inverseLongitude = longitudeFrom p (constantsOf p) (E -ℤ p .«false_easting») (N -ℤ p .«false_northing»)
-
--- latitude and longitude in mas where the refusal number is 0, else the number alone
-abbrev pub geodeticAnswer : ℕ → Geodetic → ℤ → GeodeticAnswer
-geodeticAnswer zero φ lon = Position φ lon
-geodeticAnswer (suc n) φ lon = Refused (suc n)
 
 -- the number and the values of each case
 abbrev pub geodetic-told : GeodeticAnswer → Told

@@ -1,4 +1,5 @@
 // From easting and northing back to geodetic latitude and longitude, in whole units.
+use azimuthal_forward::LEAST_NEARNESS;
 use azimuthal_forward::scale;
 use billionths::difference;
 use billionths::product;
@@ -15,20 +16,30 @@ use latitudes::AuthalicSeries;
 use latitudes::Geodetic;
 use latitudes::to_geodetic;
 use parameters::Parameters;
+use sine_table::Table;
 use trig::angle;
+use units::HALF_TURN;
+use units::UNIT;
 use units::are_within;
+use units::is_on_plane;
+use units::refusals::OUT_OF_LIMITS;
+use units::refusals::TOO_FAR;
+use units::wrap;
 ghost use mathlib.Core.Path.{_≡_};
-ghost use Prim.Native.Nat.{_≤_, _*_};
+ghost use Prim.Native.Nat.{_≤_};
 ghost use lib.IntN.{pos, natAbs};
 ghost use lib.Signed.{_≤ℤ_};
-ghost use Rattle.sine_table.specs.Table.{IsTable};
 ghost use Rattle.units.specs.Units.{half-turn};
-ghost use Rattle.parameters.specs.ParameterSet.{setRefusal};
+ghost use Rattle.sine_table.specs.Table.{IsTable};
 ghost use Rattle.latitudes.specs.Latitude.{SmallSeries};
-ghost use Rattle.constants.specs.Derived.{constantsOf, BoundedCentre};
-ghost use Rattle.azimuthal_inverse.specs.Steps.{versineOf, pointOf, SmallPoint, latitudeOf, longitudeOf, positionOf, at-origin, on-map, unprojected, inversePoint};
-ghost use Rattle.azimuthal_inverse.specs.Answer.{inverseOf, geodetic-told, inverseTold};
-ghost use Rattle.units.specs.Spans.{wrapped, on-plane};
+ghost use Rattle.constants.specs.Derived.{BoundedCentre, Prepared};
+ghost use Rattle.azimuthal_inverse.specs.Steps.{versineOf, pointOf, SmallPoint, latitudeOf, longitudeOf, at-origin, on-map};
+ghost use Rattle.azimuthal_inverse.specs.Answer.{positionOf, answerFrom, geodetic-told, inverseOf, inverseTold};
+
+// 2 U: the versed sine of the point opposite to the centre.
+const TWO_UNITS: i64 = 2_000_000_000;
+
+const TWO_UNITS_DIVISOR: u64 = 2_000_000_000;
 
 // Latitude and longitude in mas, or the refusal number alone.
 pub enum GeodeticAnswer {
@@ -44,23 +55,23 @@ pub struct SpherePoint {
     pub f: i64,
 }
 
-// K = near((X² + Y²)/(2U))
-fn drop(x: i64, y: i64) -> i64
+// K = near((X² + Y²)/(2U)): the versed sine of the distance from the centre.
+fn versine(x: i64, y: i64) -> i64
     requires { ⌜ (natAbs x ≤ 2_000_000_000) × (natAbs y ≤ 2_000_000_000) ⌝ }
-    ensures { λ k. ⌜ k ≡ versineOf x y ⌝ }
+    ensures { λ r. ⌜ r ≡ versineOf x y ⌝ }
 {
-    near(x * x + y * y, 2000000000)
+    near(x * x + y * y, TWO_UNITS_DIVISOR)
 }
 
 // The point of the sphere of X, Y and K.
-fn point(c: Constants, x: i64, y: i64, k: i64) -> SpherePoint
-    requires { ⌜ BoundedCentre c × (natAbs x ≤ 2_000_000_000) × (natAbs y ≤ 2_000_000_000) × (pos 0 ≤ℤ k) × (natAbs k ≤ 1_980_000_000) ⌝ }
-    ensures { λ s. ⌜ s ≡ pointOf c x y k ⌝ }
+fn point(k: Constants, x: i64, y: i64, versed: i64) -> SpherePoint
+    requires { ⌜ BoundedCentre k × (natAbs x ≤ 2_000_000_000) × (natAbs y ≤ 2_000_000_000) × (pos 0 ≤ℤ versed) × (natAbs versed ≤ 1_980_000_000) ⌝ }
+    ensures { λ s. ⌜ s ≡ pointOf k x y versed ⌝ }
 {
-    let s0 = c.s0;
-    let c0 = c.c0;
-    let h = scale(2000000000 - k) as i64;
-    let up = 1000000000 - k;
+    let s0 = k.s0;
+    let c0 = k.c0;
+    let h = scale(TWO_UNITS - versed) as i64;
+    let up = UNIT - versed;
     let north = product(y, h);
     SpherePoint {
         east: product(x, h),
@@ -70,7 +81,7 @@ fn point(c: Constants, x: i64, y: i64, k: i64) -> SpherePoint
 }
 
 // β of a point.
-fn latitude_of(t: &[u32; 5401], s: SpherePoint) -> Authalic
+fn latitude_of(t: &Table, s: SpherePoint) -> Authalic
     requires { ⌜ IsTable (now t) × SmallPoint s ⌝ }
     ensures { λ b. ⌜ b ≡ latitudeOf s ⌝ }
 {
@@ -81,7 +92,7 @@ fn latitude_of(t: &[u32; 5401], s: SpherePoint) -> Authalic
 }
 
 // Δ of a point: |Δ| is taken from 180° where f is negative, then gets the sign of east.
-fn longitude_of(t: &[u32; 5401], s: SpherePoint) -> i64
+fn longitude_of(t: &Table, s: SpherePoint) -> i64
     requires { ⌜ IsTable (now t) × SmallPoint s ⌝ }
     ensures { λ d. ⌜ d ≡ longitudeOf s ⌝ }
 {
@@ -89,37 +100,23 @@ fn longitude_of(t: &[u32; 5401], s: SpherePoint) -> i64
     let f = s.f;
     let near_side = angle(t, magnitude(f), magnitude(east));
     if f < 0 {
-        return signed(east < 0, 648000000 - near_side);
+        return signed(east < 0, HALF_TURN - near_side);
     }
     signed(east < 0, near_side)
 }
 
-// A longitude brought above −180° and to at most 180°.
-fn wrap(lon: i64) -> i64
-    requires { ⌜ natAbs lon ≤ 2 * half-turn ⌝ }
-    ensures { λ r. ⌜ r ≡ wrapped lon ⌝ }
-{
-    if lon <= -648000000 {
-        return lon + 1296000000;
-    }
-    if 648000000 < lon {
-        return lon - 1296000000;
-    }
-    lon
-}
-
 // Whether dE and dN are within twice RD and RN.
-fn is_on_map(c: Constants, de: i64, dn: i64) -> bool
-    requires { ⌜ (natAbs (c .rd) ≤ 1_080_000_000) × (natAbs (c .rn) ≤ 1_080_000_000) ⌝ }
-    ensures { λ r. ⌜ r ≡ on-map c de dn ⌝ }
+fn is_on_map(k: Constants, de: i64, dn: i64) -> bool
+    requires { ⌜ (natAbs (k .rd) ≤ 1_080_000_000) × (natAbs (k .rn) ≤ 1_080_000_000) ⌝ }
+    ensures { λ r. ⌜ r ≡ on-map k de dn ⌝ }
 {
-    let e = 2 * c.rd;
-    let n = 2 * c.rn;
+    let e = 2 * k.rd;
+    let n = 2 * k.rn;
     are_within(-e, e, de, -n, n, dn)
 }
 
 // The latitude and longitude of a point of the sphere.
-fn position(t: &[u32; 5401], series: AuthalicSeries, lon0: i64, s: SpherePoint) -> GeodeticAnswer
+fn position(t: &Table, series: AuthalicSeries, lon0: i64, s: SpherePoint) -> GeodeticAnswer
     requires { ⌜ IsTable (now t) × SmallSeries series × (natAbs lon0 ≤ half-turn) × SmallPoint s ⌝ }
     ensures { λ r. ⌜ r ≡ positionOf series lon0 s ⌝ }
 {
@@ -137,9 +134,9 @@ fn is_origin(de: i64, dn: i64) -> bool
 }
 
 // The steps for dE and dN.
-fn unproject(t: &[u32; 5401], p: Parameters, c: Constants, de: i64, dn: i64) -> GeodeticAnswer
-    requires { ⌜ IsTable (now t) × (setRefusal p ≡ 0) × (c ≡ constantsOf p) × (natAbs de ≤ 6_000_000_000) × (natAbs dn ≤ 6_000_000_000) ⌝ }
-    ensures { λ r. ⌜ r ≡ unprojected p c de dn ⌝ }
+fn unproject(t: &Table, p: Parameters, k: Constants, de: i64, dn: i64) -> GeodeticAnswer
+    requires { ⌜ Prepared (now t) p k × (natAbs de ≤ 6_000_000_000) × (natAbs dn ≤ 6_000_000_000) ⌝ }
+    ensures { λ r. ⌜ r ≡ answerFrom p k de dn ⌝ }
 {
     if is_origin(de, dn) {
         let latitude = p.lat0;
@@ -149,51 +146,37 @@ fn unproject(t: &[u32; 5401], p: Parameters, c: Constants, de: i64, dn: i64) -> 
             longitude,
         };
     }
-    if !is_on_map(c, de, dn) {
-        return GeodeticAnswer::Refused(4);
+    if !is_on_map(k, de, dn) {
+        return GeodeticAnswer::Refused(TOO_FAR);
     }
-    let x = quotient(de, c.rd);
-    let y = quotient(dn, c.rn);
-    let k = drop(x, y);
-    if 2000000000 - k < 20000000 {
-        return GeodeticAnswer::Refused(4);
+    let x = quotient(de, k.rd);
+    let y = quotient(dn, k.rn);
+    let versed = versine(x, y);
+    if TWO_UNITS - versed < LEAST_NEARNESS {
+        return GeodeticAnswer::Refused(TOO_FAR);
     }
-    let series = c.series;
-    position(t, series, p.lon0, point(c, x, y, k))
-}
-
-// Whether easting and northing are within ±50,000,000 m.
-pub fn is_on_plane(easting: i64, northing: i64) -> bool
-    ensures { λ r. ⌜ r ≡ on-plane easting northing ⌝ }
-{
-    are_within(
-        -5000000000,
-        5000000000,
-        easting,
-        -5000000000,
-        5000000000,
-        northing,
-    )
+    let series = k.series;
+    position(t, series, p.lon0, point(k, x, y, versed))
 }
 
 // A position with an accepted set and its constants.
 pub fn inverse_point(
-    t: &[u32; 5401],
+    t: &Table,
     p: Parameters,
-    c: Constants,
+    k: Constants,
     easting: i64,
     northing: i64,
 ) -> GeodeticAnswer
-    requires { ⌜ IsTable (now t) × (setRefusal p ≡ 0) × (c ≡ constantsOf p) ⌝ }
-    ensures { λ r. ⌜ r ≡ inversePoint p easting northing ⌝ }
+    requires { ⌜ Prepared (now t) p k ⌝ }
+    ensures { λ r. ⌜ r ≡ inverseOf p easting northing ⌝ }
 {
     if !is_on_plane(easting, northing) {
-        return GeodeticAnswer::Refused(3);
+        return GeodeticAnswer::Refused(OUT_OF_LIMITS);
     }
     unproject(
         t,
         p,
-        c,
+        k,
         easting - p.false_easting,
         northing - p.false_northing,
     )

@@ -85,7 +85,8 @@ unfolding «V»
 V-about e2 φ0 small =
     about (U -ℤ near (e2 *ℤ near (sine (φ0 .0) *ℤ sine (φ0 .0)) unit) unit) unit 10_000_000
     (rw (back U (near (e2 *ℤ near (sine (φ0 .0) *ℤ sine (φ0 .0)) unit) unit), abs-neg (near (e2 *ℤ near (sine (φ0 .0) *ℤ sine (φ0 .0)) unit) unit))
-    (near-at-most (e2 *ℤ near (sine (φ0 .0) *ℤ sine (φ0 .0)) unit) unit 10_000_000 some (abs-mul-le e2 (near (sine (φ0 .0) *ℤ sine (φ0 .0)) unit) small (square-size (φ0 .0)))))
+    (near-at-most (e2 *ℤ near (sine (φ0 .0) *ℤ sine (φ0 .0)) unit) unit 10_000_000 some
+    (abs-mul-le e2 (near (sine (φ0 .0) *ℤ sine (φ0 .0)) unit) small (square-size (φ0 .0)))))
     (lit≤ tt)
   where
     back : (x y : ℤ) → x -ℤ y -ℤ x ≡ negℤ y
@@ -114,7 +115,8 @@ module _ (g r m : ℕ) (g-large : 87_000_000 ≤ g) (r-least : 994_000_000 ≤ r
   m-low = omega (arith, rw (← is) at (nearest-high (g * unit) r-some), mul-le-mul-left m r-most)
 
 -- j = near(J·c/U), with J near U and a cosine c near g: within 4.4 % of g
-module _ (g J c j : ℕ) (g-large : 87_000_000 ≤ g) (c-low : g ≤ c + 3_462_550) (c-high : c ≤ g + 3_462_550) (J-least : 996_000_000 ≤ J) (J-most : J ≤ 1_002_000_000) (is : j ≡ nearest (J * c) unit) where
+module _ (g J c j : ℕ) (g-large : 87_000_000 ≤ g) (c-low : g ≤ c + 3_462_550) (c-high : c ≤ g + 3_462_550) (J-least : 996_000_000 ≤ J)
+    (J-most : J ≤ 1_002_000_000) (is : j ≡ nearest (J * c) unit) where
   j-high : 1000 * j ≤ 1043 * g
   j-high = omega (arith, rw (← is) at (nearest-low (J * c) some), mul-le-mul-right c J-most)
 
@@ -285,7 +287,8 @@ module _ (p : Parameters) (ok : Accepted p) where
   RN-is = near-natural (Rq p) U (natAbs (D (p .e2) (p .lat0))) (Rq-between .natural) refl
 
   -- a quotient by a divisor from 0.93 U to 1.07 U
-  quotient : (q d : ℕ) → 99_599_999 ≤ q → q ≤ 1_002_000_000 → 930_000_000 ≤ d → d ≤ 1_070_000_000 → Between (pos (nearest (q * unit) d)) 90_909_091 1_080_000_000
+  quotient : (q d : ℕ) → 99_599_999 ≤ q → q ≤ 1_002_000_000 → 930_000_000 ≤ d → d ≤ 1_070_000_000 →
+      Between (pos (nearest (q * unit) d)) 90_909_091 1_080_000_000
   quotient q d ql qm dl dm =
       let n : ℕ = nearest (q * unit) d in
       let d-some : 0 < d = omega arith in

@@ -104,7 +104,10 @@ module _ (e2 : ℤ) (small : natAbs e2 ≤ 10_000_000) where
   unfolding seriesOf to-mas nearest
   series-small =
       record {
-        k2-size = le-trans (near-bound (k2 e2 *ℤ pos 206_264_806) unit (lit< tt) (abs-mul-le (k2 e2) (pos 206_264_806) k2-size (le-refl 206_264_806))) (lit≤ tt);
-        k4-size = le-trans (near-bound (k4 e2 *ℤ pos 206_264_806) unit (lit< tt) (abs-mul-le (k4 e2) (pos 206_264_806) k4-size (le-refl 206_264_806))) (lit≤ tt);
-        k6-size = le-trans (near-bound (k6 e2 *ℤ pos 206_264_806) unit (lit< tt) (abs-mul-le (k6 e2) (pos 206_264_806) k6-size (le-refl 206_264_806))) (lit≤ tt);
+        k2-size = le-trans (near-bound (k2 e2 *ℤ pos 206_264_806) unit (lit< tt) (abs-mul-le (k2 e2) (pos 206_264_806) k2-size (le-refl 206_264_806)))
+            (lit≤ tt);
+        k4-size = le-trans (near-bound (k4 e2 *ℤ pos 206_264_806) unit (lit< tt) (abs-mul-le (k4 e2) (pos 206_264_806) k4-size (le-refl 206_264_806)))
+            (lit≤ tt);
+        k6-size = le-trans (near-bound (k6 e2 *ℤ pos 206_264_806) unit (lit< tt) (abs-mul-le (k6 e2) (pos 206_264_806) k6-size (le-refl 206_264_806)))
+            (lit≤ tt);
       }

@@ -76,7 +76,8 @@ module _ (lon : ℤ) where
   pub wrapped-range : natAbs lon ≤ 2 * half-turn → (negℤ (pos half-turn) <ℤ wrapped lon) × (wrapped lon ≤ℤ pos half-turn)
   wrapped-range size = at (≤ℤ-total lon (negℤ (pos half-turn))) (≤ℤ-total lon (pos half-turn))
     where
-      at : (lon ≤ℤ negℤ (pos half-turn)) ⊎ (negℤ (pos half-turn) <ℤ lon) → (lon ≤ℤ pos half-turn) ⊎ (pos half-turn <ℤ lon) → (negℤ (pos half-turn) <ℤ wrapped lon) × (wrapped lon ≤ℤ pos half-turn)
+      at : (lon ≤ℤ negℤ (pos half-turn)) ⊎ (negℤ (pos half-turn) <ℤ lon) → (lon ≤ℤ pos half-turn) ⊎ (pos half-turn <ℤ lon) →
+          (negℤ (pos half-turn) <ℤ wrapped lon) × (wrapped lon ≤ℤ pos half-turn)
       at (inl h) o = rw (wrapped-low h) (omega (order, natAbs-parts lon, parts-+ lon (pos full-turn)))
       at (inr h) (inl l) = rw (wrapped-between h l) (h, l)
       at (inr h) (inr l) = rw (wrapped-high l) (omega (order, natAbs-parts lon, parts-- lon (pos full-turn)))

@@ -23,7 +23,8 @@ twice r = toZ w64 (ofZ w64 (pos 2 *ℤ toZ w64 (ofZ w64 r)))
 -- the test that a call makes
 axis-is : (r z : ℤ) → natAbs r ≤ 1_080_000_000 → SFits w64 z → within (toZ w64 (ofZ w64 (pos 0 -ℤ twice r))) (twice r) (toZ w64 (ofZ w64 z)) ≡ on-axis r z
 axis-is r z h f =
-    ap₂ (λ (low high : ℤ). within low high (toZ w64 (ofZ w64 z))) (read (search (code, h) depth 40 fits 20000) tt) (read (search (code, h) depth 40 fits 20000) tt)
+    ap₂ (λ (low high : ℤ). within low high (toZ w64 (ofZ w64 z))) (read (search (code, h) depth 40 fits 20000) tt)
+    (read (search (code, h) depth 40 fits 20000) tt)
     ∙ ap (on-axis r) (toZ-ofZ f)
 
 mul-e : tie.Need-mul-e
@@ -46,7 +47,8 @@ unfolding on-map
 returns c =
     let start = c .before .before .before .before .before in
     c .are-within .ensures
-    ∙ ap₂ _&&_ (axis-is (start .args .c .rd) (start .args .de) (start .pre .0) (start .fits .de)) (axis-is (start .args .c .rn) (start .args .dn) (start .pre .1) (start .fits .dn))
+    ∙ ap₂ _&&_ (axis-is (start .args .k .rd) (start .args .de) (start .pre .0) (start .fits .de))
+    (axis-is (start .args .k .rn) (start .args .dn) (start .pre .1) (start .fits .dn))
 
 pub is-on-map-spec : {M : Type 1} → statement M
 is-on-map-spec = tie.close (tie.spec mul-e mul-n sub-are-within sub-are-within-2 are-within-requires returns)

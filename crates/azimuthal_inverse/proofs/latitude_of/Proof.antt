@@ -1,4 +1,5 @@
--- `inverse::latitude_of` meets its contract: the coordinates are small enough that their squares and the sum of two of them are within 64 bits, and an angle is at most 90°. Assumes nothing.
+-- `inverse::latitude_of` meets its contract: the coordinates are small enough that their squares and the sum of two of them are
+-- within 64 bits, and an angle is at most 90°. Assumes nothing.
 use borrow.Author.Needs.{needs}
 use mathlib.Core.Path.{_≡_, ap, ap₂, _∙_}
 use Prim.Native.Nat.{ℕ, _+_, _*_, _≤_}
@@ -95,7 +96,8 @@ returns c =
     let start = c .before .before .before .before .before .before .before .before .before in
     rw (returned (c .signed .ok)
     ∙ c .signed .ensures
-    ∙ ap₂ signed (ap (λ (z : ℤ). ltZ z (pos 0)) (coordinates (start .args .s) (start .pre .1) .z-read)) (c .before .angle .ensures ∙ ap₂ angle (root-is (c .before .before .before)) (z-is (c .before .before))))
+    ∙ ap₂ signed (ap (λ (z : ℤ). ltZ z (pos 0)) (coordinates (start .args .s) (start .pre .1) .z-read))
+    (c .before .angle .ensures ∙ ap₂ angle (root-is (c .before .before .before)) (z-is (c .before .before))))
 
 pub latitude-of-spec : {M : Type 1} → statement M
 latitude-of-spec =

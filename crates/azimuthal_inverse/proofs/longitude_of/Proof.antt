@@ -50,8 +50,10 @@ signed-requires c κs = search needs
 
 -- the angle, and the sign of east
 record Taken (c : tie.After-angle) : Type 0 where
-  pub size : c .angle .result ≡ angle (natAbs (c .before .before .before .before .before .args .s .f)) (natAbs (c .before .before .before .before .before .args .s .east))
-  pub sign : ltZ (toZ w64 (ofZ w64 (c .before .before .before .before .before .args .s .east))) (pos 0) ≡ ltZ (c .before .before .before .before .before .args .s .east) (pos 0)
+  pub size : c .angle .result ≡ angle (natAbs (c .before .before .before .before .before .args .s .f))
+      (natAbs (c .before .before .before .before .before .args .s .east))
+  pub sign : ltZ (toZ w64 (ofZ w64 (c .before .before .before .before .before .args .s .east))) (pos 0) ≡ ltZ
+      (c .before .before .before .before .before .args .s .east) (pos 0)
 
 taken : (c : tie.After-angle) → Taken c
 taken c =
@@ -68,7 +70,8 @@ returns c =
     returned (c .signed .ok)
     ∙ c .signed .ensures
     ∙ ap₂ signed (t .sign) (ap (λ (n : ℕ). half-turn - n) (t .size))
-    ∙ sym (longitude-far (start .args .s) (lt-taken (rw as-lt at (c .before .if1 .taken)) (search (code, start .pre .1 .f-size) depth 40 fits 20000) (search code depth 40 fits 20000) tt))
+    ∙ sym (longitude-far (start .args .s)
+    (lt-taken (rw as-lt at (c .before .if1 .taken)) (search (code, start .pre .1 .f-size) depth 40 fits 20000) (search code depth 40 fits 20000) tt))
 
 signed-requires-2 : tie.Need-signed-requires-2
 signed-requires-2 c κs = omega (arith, angle-small (c .before))
@@ -80,7 +83,8 @@ returns-2 c =
     returned (c .signed2 .ok)
     ∙ c .signed2 .ensures
     ∙ ap₂ signed (t .sign) (t .size)
-    ∙ sym (longitude-near (start .args .s) (lt-left (rw as-lt at (c .before .if1 .left)) (search (code, start .pre .1 .f-size) depth 40 fits 20000) (search code depth 40 fits 20000) tt))
+    ∙ sym (longitude-near (start .args .s)
+    (lt-left (rw as-lt at (c .before .if1 .left)) (search (code, start .pre .1 .f-size) depth 40 fits 20000) (search code depth 40 fits 20000) tt))
 
 pub longitude-of-spec : {M : Type 1} → statement M
 longitude-of-spec =

@@ -1,4 +1,4 @@
--- `inverse::position` meets its contract: lon0 and Δ are each at most 180° in size. Assumes nothing.
+-- `position` meets its contract: lon0 and Δ are each at most 180° in size. Assumes nothing.
 use borrow.Author.Needs.{needs}
 use mathlib.Core.Path.{ap, ap₂, _∙_}
 use Prim.Native.Nat.{_≤_}
@@ -7,8 +7,8 @@ use Rattle.proof_kit.proofs.Range.{code, fits, read, read-size, returned}
 use Rattle.proof_kit.proofs.Size.{as-size}
 use Rattle.azimuthal_inverse.specs.declared.GeodeticAnswer.the-variants.{Position}
 use Rattle.latitudes.specs.Latitude.{geodetic}
+use Rattle.units.specs.Units.{half-turn}
 use Rattle.units.specs.Spans.{wrapped}
-use Rattle.azimuthal_inverse.specs.Steps.{positionOf}
 use Rattle.azimuthal_inverse.proofs.AngleLaws.{latitude-size, longitude-size}
 use Rattle.azimuthal_inverse.proofs.position.Statement.{statement}
 use Rattle.azimuthal_inverse.proofs.position.Tie as tie
@@ -24,7 +24,7 @@ to-geodetic-requires c κs =
 longitude-of-requires : tie.Need-longitude-of-requires
 longitude-of-requires c κs = search needs
 
-Δ-size : (c : tie.After-longitude-of) → natAbs (c .longitude-of .result) ≤ 648_000_000
+Δ-size : (c : tie.After-longitude-of) → natAbs (c .longitude-of .result) ≤ half-turn
 Δ-size c = rw (c .longitude-of .ensures) (longitude-size (c .before .before .before .args .s))
 
 add-wrap : tie.Need-add-wrap
@@ -34,14 +34,14 @@ wrap-requires : tie.Need-wrap-requires
 wrap-requires c κs = rw as-size (read-size (search (code, c .before .before .before .pre .2, Δ-size c) depth 40 fits 20000) tt)
 
 returns : tie.Need-returns
-unfolding positionOf
 returns c =
     let start = c .before .before .before .before in
     ap₂ Position
     (c .before .before .to-geodetic .ensures ∙ ap (geodetic (start .args .series)) (c .before .before .before .latitude-of .ensures))
     (returned (c .wrap .ok)
     ∙ c .wrap .ensures
-    ∙ ap wrapped (read (search (code, start .pre .2, Δ-size (c .before)) depth 40 fits 20000) tt ∙ ap (λ (x : ℤ). start .args .lon0 +ℤ x) (c .before .longitude-of .ensures)))
+    ∙ ap wrapped (read (search (code, start .pre .2, Δ-size (c .before)) depth 40 fits 20000) tt
+    ∙ ap (λ (x : ℤ). start .args .lon0 +ℤ x) (c .before .longitude-of .ensures)))
 
 pub position-spec : {M : Type 1} → statement M
 position-spec =

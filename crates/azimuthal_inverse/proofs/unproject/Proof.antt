@@ -1,4 +1,4 @@
--- `inverse::unproject` meets its contract: each return follows from the tests that led there, and on the map X and Y are at most 2 units. Assumes nothing.
+-- `unproject` meets its contract: each return follows from the tests that led there, and on the map X and Y are at most 2 units. Assumes nothing.
 use borrow.Author.Needs.{needs}
 use borrow.Author.Tests.{not-true, not-false}
 use mathlib.Core.Path.{_≡_, sym, ap, ap₂, _∙_, subst}
@@ -15,14 +15,122 @@ use Rattle.integers.specs.Near.{near}
 use Rattle.units.specs.Units.{half-turn, U}
 use Rattle.azimuthal_inverse.specs.declared.GeodeticAnswer.the-variants.{Position}
 use Rattle.azimuthal_forward.specs.Steps.{near-enough}
-use Rattle.azimuthal_inverse.specs.Steps.{versineOf, G, SmallPoint, positionOf, at-origin, on-map, X, Y, K, found}
+use Rattle.azimuthal_inverse.specs.Steps.{versineOf, G, SmallPoint, at-origin, on-map, X, Y, K, found}
+use Rattle.azimuthal_inverse.specs.Answer.{positionOf}
 use Rattle.parameters.proofs.AcceptedSet.{accepted}
 use Rattle.units.proofs.Spans.{Between}
 use Rattle.constants.proofs.ConstantsLaws.{Sound, sound-as}
 use Rattle.billionths.proofs.Calls.{back, back-is}
-use Rattle.azimuthal_inverse.proofs.InverseLaws.{K-natural, K-near, drop-size, point-sized, OnMap, map-sizes, unprojected-origin, unprojected-off-map, unprojected-too-far, unprojected-position}
+use Rattle.azimuthal_inverse.proofs.InverseLaws.{K-natural, K-near, versine-size, point-sized, OnMap, map-sizes}
+use Rattle.azimuthal_inverse.proofs.AnswerLaws.{from-origin, from-off-map, from-too-far, from-position}
 use Rattle.azimuthal_inverse.proofs.unproject.Statement.{statement}
 use Rattle.azimuthal_inverse.proofs.unproject.Tie as tie
+
+-- the places that are looked back at, each from the place before it
+abbrev start-at-else1 : tie.Else1 → tie.Start
+start-at-else1 c = c .before .before
+
+abbrev start-at-is-on-map : tie.After-is-on-map → tie.Start
+start-at-is-on-map c = start-at-else1 (c .before)
+
+abbrev start-at-struct-told : tie.After-struct-told → tie.Start
+start-at-struct-told c = c .before .before .before .before
+
+abbrev start-at-else2 : tie.Else2 → tie.Start
+start-at-else2 c = start-at-is-on-map (c .before)
+
+abbrev start-at-then2 : tie.Then2 → tie.Start
+start-at-then2 c = start-at-is-on-map (c .before)
+
+abbrev start-at-struct-told2 : tie.After-struct-told2 → tie.Start
+start-at-struct-told2 c = start-at-else2 (c .before)
+
+abbrev start-at-quotient : tie.After-quotient → tie.Start
+start-at-quotient c = start-at-struct-told2 (c .before)
+
+abbrev start-at-struct-told3 : tie.After-struct-told3 → tie.Start
+start-at-struct-told3 c = start-at-quotient (c .before)
+
+abbrev start-at-quotient2 : tie.After-quotient2 → tie.Start
+start-at-quotient2 c = start-at-struct-told3 (c .before)
+
+abbrev start-at-versine : tie.After-versine → tie.Start
+start-at-versine c = start-at-quotient2 (c .before)
+
+abbrev start-at-then3 : tie.Then3 → tie.Start
+start-at-then3 c = start-at-versine (c .before)
+
+abbrev start-at-else3 : tie.Else3 → tie.Start
+start-at-else3 c = start-at-versine (c .before)
+
+abbrev start-at-point : tie.After-point → tie.Start
+start-at-point c = start-at-else3 (c .before .before)
+
+abbrev start-at-struct-told4 : tie.After-struct-told4 → tie.Start
+start-at-struct-told4 c = start-at-point (c .before)
+
+abbrev start-at-position : tie.After-position → tie.Start
+start-at-position c = start-at-struct-told4 (c .before)
+
+abbrev else3-at-position : tie.After-position → tie.Else3
+else3-at-position c = c .before .before .before .before
+
+abbrev quotient2-at-series : tie.After-series → tie.After-quotient2
+quotient2-at-series c = c .before .before .before
+
+abbrev quotient2-at-point : tie.After-point → tie.After-quotient2
+quotient2-at-point c = quotient2-at-series (c .before)
+
+abbrev else2-at-struct-told3 : tie.After-struct-told3 → tie.Else2
+else2-at-struct-told3 c = c .before .before .before
+
+abbrev else2-at-quotient2 : tie.After-quotient2 → tie.Else2
+else2-at-quotient2 c = else2-at-struct-told3 (c .before)
+
+abbrev else2-at-versine : tie.After-versine → tie.Else2
+else2-at-versine c = else2-at-quotient2 (c .before)
+
+abbrev else2-at-then3 : tie.Then3 → tie.Else2
+else2-at-then3 c = else2-at-versine (c .before)
+
+abbrev else2-at-series : tie.After-series → tie.Else2
+else2-at-series c = else2-at-versine (c .before .before)
+
+abbrev else2-at-point : tie.After-point → tie.Else2
+else2-at-point c = else2-at-series (c .before)
+
+abbrev else2-at-position : tie.After-position → tie.Else2
+else2-at-position c = else2-at-point (c .before .before)
+
+abbrev else1-at-struct-told2 : tie.After-struct-told2 → tie.Else1
+else1-at-struct-told2 c = c .before .before .before
+
+abbrev else1-at-quotient : tie.After-quotient → tie.Else1
+else1-at-quotient c = else1-at-struct-told2 (c .before)
+
+abbrev else1-at-struct-told3 : tie.After-struct-told3 → tie.Else1
+else1-at-struct-told3 c = else1-at-quotient (c .before)
+
+abbrev else1-at-quotient2 : tie.After-quotient2 → tie.Else1
+else1-at-quotient2 c = else1-at-struct-told3 (c .before)
+
+abbrev else1-at-then3 : tie.Then3 → tie.Else1
+else1-at-then3 c = else1-at-quotient2 (c .before .before)
+
+abbrev else1-at-series : tie.After-series → tie.Else1
+else1-at-series c = else1-at-quotient2 (c .before .before .before)
+
+abbrev else1-at-point : tie.After-point → tie.Else1
+else1-at-point c = else1-at-series (c .before)
+
+abbrev else1-at-struct-told4 : tie.After-struct-told4 → tie.Else1
+else1-at-struct-told4 c = else1-at-point (c .before)
+
+abbrev else1-at-position : tie.After-position → tie.Else1
+else1-at-position c = else1-at-struct-told4 (c .before)
+
+abbrev is-origin-at-struct-told : tie.After-struct-told → tie.After-is-origin
+is-origin-at-struct-told c = c .before .before .before
 
 is-origin-requires : tie.Need-is-origin-requires
 is-origin-requires c κs = search needs
@@ -32,38 +140,42 @@ origin-is c = c .is-origin .ensures ∙ ap₂ at-origin (toZ-ofZ (c .before .fit
 
 returns : tie.Need-returns
 returns c =
-    let start = c .before .before .before .before in
-    ap (Position (start .args .p .lat0)) (kept (start .args .p .lon0) (accepted (start .args .p) (start .pre .1) .lon0-size) (lit< tt))
-    ∙ sym (unprojected-origin (c .before .before .before .before .args .p) (c .before .before .before .before .args .c) (c .before .before .before .before .args .de) (c .before .before .before .before .args .dn) (sym (origin-is (c .before .before .before)) ∙ c .before .before .if1 .taken))
+    let start = start-at-struct-told c in
+    ap (Position (start .args .p .lat0)) (kept (start .args .p .lon0) (accepted (start .args .p) (start .pre .0 .accepted) .lon0-size) (lit< tt))
+    ∙ sym (from-origin (start-at-struct-told c .args .p) (start-at-struct-told c .args .k) (start-at-struct-told c .args .de)
+    (start-at-struct-told c .args .dn) (sym (origin-is (is-origin-at-struct-told c)) ∙ c .before .before .if1 .taken))
 
-not-origin : (c : tie.Else1) → at-origin (c .before .before .args .de) (c .before .before .args .dn) ≡ false
+not-origin : (c : tie.Else1) → at-origin (start-at-else1 c .args .de) (start-at-else1 c .args .dn) ≡ false
 not-origin c = sym (origin-is (c .before)) ∙ c .if1 .left
 
-good : (c : tie.Else1) → Sound (c .before .before .args .c)
+good : (c : tie.Else1) → Sound (start-at-else1 c .args .k)
 good c =
-    let start = c .before .before in
-    sound-as (start .args .p) (start .args .c) (start .pre .1) (start .pre .2)
+    let start = start-at-else1 c in
+    sound-as (start .args .p) (start .args .k) (start .pre .0 .accepted) (start .pre .0 .constants)
 
 is-on-map-requires : tie.Need-is-on-map-requires
 is-on-map-requires c κs = let k = good c in (k .rd-between .most, k .rn-between .most)
 
-map-is : (c : tie.After-is-on-map) → c .is-on-map .result ≡ on-map (c .before .before .before .args .c) (c .before .before .before .args .de) (c .before .before .before .args .dn)
+map-is : (c : tie.After-is-on-map) → c .is-on-map .result ≡ on-map (start-at-is-on-map c .args .k) (start-at-is-on-map c .args .de)
+    (start-at-is-on-map c .args .dn)
 map-is c =
-    let start = c .before .before .before in
-    c .is-on-map .ensures ∙ ap₂ (on-map (start .args .c)) (toZ-ofZ (start .fits .de)) (toZ-ofZ (start .fits .dn))
+    let start = start-at-is-on-map c in
+    c .is-on-map .ensures ∙ ap₂ (on-map (start .args .k)) (toZ-ofZ (start .fits .de)) (toZ-ofZ (start .fits .dn))
 
 returns-2 : tie.Need-returns-2
 returns-2 c =
-    sym (unprojected-off-map (c .before .before .before .before .args .p) (c .before .before .before .before .args .c) (c .before .before .before .before .args .de) (c .before .before .before .before .args .dn) (not-origin (c .before .before)) (sym (map-is (c .before)) ∙ not-true (c .before .is-on-map .result) (c .if2 .taken)))
+    sym (from-off-map (start-at-then2 c .args .p) (start-at-then2 c .args .k) (start-at-then2 c .args .de) (start-at-then2 c .args .dn)
+    (not-origin (c .before .before)) (sym (map-is (c .before)) ∙ not-true (c .before .is-on-map .result) (c .if2 .taken)))
 
-on-it : (c : tie.Else2) → on-map (c .before .before .before .before .args .c) (c .before .before .before .before .args .de) (c .before .before .before .before .args .dn) ≡ true
+on-it : (c : tie.Else2) → on-map (start-at-else2 c .args .k) (start-at-else2 c .args .de) (start-at-else2 c .args .dn) ≡ true
 on-it c = sym (map-is (c .before)) ∙ not-false (c .before .is-on-map .result) (c .if2 .left)
 
-sizes : (c : tie.Else2) → OnMap (c .before .before .before .before .args .c) (c .before .before .before .before .args .de) (c .before .before .before .before .args .dn)
-sizes c = map-sizes (c .before .before .before .before .args .c) (good (c .before .before)) (c .before .before .before .before .args .de) (c .before .before .before .before .args .dn) (on-it c)
+sizes : (c : tie.Else2) → OnMap (start-at-else2 c .args .k) (start-at-else2 c .args .de) (start-at-else2 c .args .dn)
+sizes c = map-sizes (start-at-else2 c .args .k) (good (c .before .before)) (start-at-else2 c .args .de) (start-at-else2 c .args .dn) (on-it c)
 
 -- a distance and a radius, as a quotient takes them
-division : (x r : ℤ) → natAbs x ≤ 2_160_000_000 → Between r 90_909_091 1_080_000_000 → (natAbs (back x) ≤ 2_160_000_000) × (pos 1 ≤ℤ back r) × (natAbs (back r) ≤ 2_000_000_000)
+division : (x r : ℤ) → natAbs x ≤ 2_160_000_000 → Between r 90_909_091 1_080_000_000 →
+    (natAbs (back x) ≤ 2_160_000_000) × (pos 1 ≤ℤ back r) × (natAbs (back r) ≤ 2_000_000_000)
 division x r h b =
     rw (kept x h (lit< tt), kept r (b .most) (lit< tt))
     (h, subst (λ (z : ℤ). pos 1 ≤ℤ z) (b .natural) (pos-≤ℤ (le-trans (lit≤ tt) (b .least))), le-trans (b .most) (lit≤ tt))
@@ -74,109 +186,121 @@ divided q x r e h b = e ∙ ap₂ (λ (a d : ℤ). near (a *ℤ U) (natAbs d)) (
 
 quotient-requires : tie.Need-quotient-requires
 quotient-requires c κs =
-    division (c .before .before .before .before .before .args .de) (c .before .before .before .before .before .args .c .rd) (sizes (c .before) .dE-size) (good (c .before .before .before) .rd-between)
+    division (start-at-struct-told2 c .args .de) (start-at-struct-told2 c .args .k .rd) (sizes (c .before) .dE-size)
+    (good (else1-at-struct-told2 c) .rd-between)
 
-X-is : (c : tie.After-quotient) → c .quotient .result ≡ X (c .before .before .before .before .before .before .args .c) (c .before .before .before .before .before .before .args .de)
+X-is : (c : tie.After-quotient) → c .quotient .result ≡ X (start-at-quotient c .args .k) (start-at-quotient c .args .de)
 unfolding X
 X-is c =
-    divided (c .quotient .result) (c .before .before .before .before .before .before .args .de) (c .before .before .before .before .before .before .args .c .rd) (c .quotient .ensures) (sizes (c .before .before) .dE-size) (good (c .before .before .before .before) .rd-between)
+    divided (c .quotient .result) (start-at-quotient c .args .de) (start-at-quotient c .args .k .rd) (c .quotient .ensures)
+    (sizes (c .before .before) .dE-size) (good (else1-at-quotient c) .rd-between)
 
 quotient-requires-2 : tie.Need-quotient-requires-2
 quotient-requires-2 c κs =
-    division (c .before .before .before .before .before .before .before .args .dn) (c .before .before .before .before .before .before .before .args .c .rn) (sizes (c .before .before .before) .dN-size) (good (c .before .before .before .before .before) .rn-between)
+    division (start-at-struct-told3 c .args .dn) (start-at-struct-told3 c .args .k .rn) (sizes (else2-at-struct-told3 c) .dN-size)
+    (good (else1-at-struct-told3 c) .rn-between)
 
-Y-is : (c : tie.After-quotient2) → c .quotient2 .result ≡ Y (c .before .before .before .before .before .before .before .before .args .c) (c .before .before .before .before .before .before .before .before .args .dn)
+Y-is : (c : tie.After-quotient2) → c .quotient2 .result ≡ Y (start-at-quotient2 c .args .k) (start-at-quotient2 c .args .dn)
 unfolding Y
 Y-is c =
-    divided (c .quotient2 .result) (c .before .before .before .before .before .before .before .before .args .dn) (c .before .before .before .before .before .before .before .before .args .c .rn) (c .quotient2 .ensures) (sizes (c .before .before .before .before) .dN-size) (good (c .before .before .before .before .before .before) .rn-between)
+    divided (c .quotient2 .result) (start-at-quotient2 c .args .dn) (start-at-quotient2 c .args .k .rn) (c .quotient2 .ensures)
+    (sizes (else2-at-quotient2 c) .dN-size) (good (else1-at-quotient2 c) .rn-between)
 
 -- X and Y as they are read back
 record Ratios (c : tie.After-quotient2) : Type 0 where
-  pub x-read : back (c .before .before .quotient .result) ≡ X (c .before .before .before .before .before .before .before .before .args .c) (c .before .before .before .before .before .before .before .before .args .de)
-  pub y-read : back (c .quotient2 .result) ≡ Y (c .before .before .before .before .before .before .before .before .args .c) (c .before .before .before .before .before .before .before .before .args .dn)
+  pub x-read : back (c .before .before .quotient .result) ≡ X (start-at-quotient2 c .args .k) (start-at-quotient2 c .args .de)
+  pub y-read : back (c .quotient2 .result) ≡ Y (start-at-quotient2 c .args .k) (start-at-quotient2 c .args .dn)
 
 ratios : (c : tie.After-quotient2) → Ratios c
 ratios c =
-    let o = sizes (c .before .before .before .before) in
+    let o = sizes (else2-at-quotient2 c) in
     record { x-read = back-is (X-is (c .before .before)) (o .X-size) (lit< tt); y-read = back-is (Y-is c) (o .Y-size) (lit< tt) }
 
-drop-requires : tie.Need-drop-requires
-drop-requires c κs =
-    let o = sizes (c .before .before .before .before) in
+versine-requires : tie.Need-versine-requires
+versine-requires c κs =
+    let o = sizes (else2-at-quotient2 c) in
     let r = ratios c in
     rw (r .x-read, r .y-read) (o .X-size, o .Y-size)
 
-K-is : (c : tie.After-drop) → c .drop .result ≡ K (c .before .before .before .before .before .before .before .before .before .args .c) (c .before .before .before .before .before .before .before .before .before .args .de) (c .before .before .before .before .before .before .before .before .before .args .dn)
+K-is : (c : tie.After-versine) → c .versine .result ≡ K (start-at-versine c .args .k) (start-at-versine c .args .de) (start-at-versine c .args .dn)
 unfolding K
 K-is c =
     let r = ratios (c .before) in
-    c .drop .ensures ∙ ap₂ versineOf (r .x-read) (r .y-read)
+    c .versine .ensures ∙ ap₂ versineOf (r .x-read) (r .y-read)
 
-K-size : (c : tie.After-drop) → natAbs (K (c .before .before .before .before .before .before .before .before .before .args .c) (c .before .before .before .before .before .before .before .before .before .args .de) (c .before .before .before .before .before .before .before .before .before .args .dn)) ≤ 4_000_000_000
+K-size : (c : tie.After-versine) → natAbs (K (start-at-versine c .args .k) (start-at-versine c .args .de) (start-at-versine c .args .dn)) ≤ 4_000_000_000
 unfolding K
 K-size c =
-    let o = sizes (c .before .before .before .before .before) in
-    drop-size (X (c .before .before .before .before .before .before .before .before .before .args .c) (c .before .before .before .before .before .before .before .before .before .args .de)) (Y (c .before .before .before .before .before .before .before .before .before .args .c) (c .before .before .before .before .before .before .before .before .before .args .dn)) (o .X-size) (o .Y-size)
+    let o = sizes (else2-at-versine c) in
+    versine-size (X (start-at-versine c .args .k) (start-at-versine c .args .de)) (Y (start-at-versine c .args .k) (start-at-versine c .args .dn))
+    (o .X-size) (o .Y-size)
 
-drop-small : (c : tie.After-drop) → natAbs (c .drop .result) ≤ 4_000_000_000
-drop-small c = rw (K-is c) (K-size c)
+versine-small : (c : tie.After-versine) → natAbs (c .versine .result) ≤ 4_000_000_000
+versine-small c = rw (K-is c) (K-size c)
 
 sub-if3 : tie.Need-sub-if3
-sub-if3 c = fits (search (code, drop-small c) depth 40 fits 20000) tt
+sub-if3 c = fits (search (code, versine-small c) depth 40 fits 20000) tt
 
-G-read : (c : tie.After-drop) → back (pos 2_000_000_000 -ℤ back (c .drop .result)) ≡ G (K (c .before .before .before .before .before .before .before .before .before .args .c) (c .before .before .before .before .before .before .before .before .before .args .de) (c .before .before .before .before .before .before .before .before .before .args .dn))
+G-read : (c : tie.After-versine) →
+    back (pos 2_000_000_000 -ℤ back (c .versine .result)) ≡ G (K (start-at-versine c .args .k) (start-at-versine c .args .de) (start-at-versine c .args .dn))
 unfolding G
-G-read c = read (search (code, drop-small c) depth 40 fits 20000) tt ∙ ap (λ (x : ℤ). pos 2_000_000_000 -ℤ x) (K-is c)
+G-read c = read (search (code, versine-small c) depth 40 fits 20000) tt ∙ ap (λ (x : ℤ). pos 2_000_000_000 -ℤ x) (K-is c)
 
 returns-3 : tie.Need-returns-3
 unfolding near-enough
 returns-3 c =
     let below = sym (ap (λ (z : ℤ). ltZ z (pos 20_000_000)) (G-read (c .before))) ∙ c .if3 .taken in
-    sym (unprojected-too-far (c .before .before .before .before .before .before .before .before .before .before .args .p) (c .before .before .before .before .before .before .before .before .before .before .args .c) (c .before .before .before .before .before .before .before .before .before .before .args .de) (c .before .before .before .before .before .before .before .before .before .before .args .dn) (not-origin (c .before .before .before .before .before .before .before .before)) (on-it (c .before .before .before .before .before .before)) (lt-leZ (ltZ-true (G (K (c .before .before .before .before .before .before .before .before .before .before .args .c) (c .before .before .before .before .before .before .before .before .before .before .args .de) (c .before .before .before .before .before .before .before .before .before .before .args .dn))) (pos 20_000_000) below)))
+    sym (from-too-far (start-at-then3 c .args .p) (start-at-then3 c .args .k) (start-at-then3 c .args .de) (start-at-then3 c .args .dn)
+    (not-origin (else1-at-then3 c)) (on-it (else2-at-then3 c))
+    (lt-leZ (ltZ-true (G (K (start-at-then3 c .args .k) (start-at-then3 c .args .de) (start-at-then3 c .args .dn))) (pos 20_000_000) below)))
 
-enough : (c : tie.Else3) → pos 20_000_000 ≤ℤ G (K (c .before .before .before .before .before .before .before .before .before .before .args .c) (c .before .before .before .before .before .before .before .before .before .before .args .de) (c .before .before .before .before .before .before .before .before .before .before .args .dn))
-enough c = ltZ-false (G (K (c .before .before .before .before .before .before .before .before .before .before .args .c) (c .before .before .before .before .before .before .before .before .before .before .args .de) (c .before .before .before .before .before .before .before .before .before .before .args .dn))) (pos 20_000_000) (sym (ap (λ (z : ℤ). ltZ z (pos 20_000_000)) (G-read (c .before))) ∙ c .if3 .left)
+enough : (c : tie.Else3) → pos 20_000_000 ≤ℤ G (K (start-at-else3 c .args .k) (start-at-else3 c .args .de) (start-at-else3 c .args .dn))
+enough c = ltZ-false (G (K (start-at-else3 c .args .k) (start-at-else3 c .args .de) (start-at-else3 c .args .dn))) (pos 20_000_000)
+    (sym (ap (λ (z : ℤ). ltZ z (pos 20_000_000)) (G-read (c .before))) ∙ c .if3 .left)
 
 -- K from 0 to 1.98 U
 record Near (c : tie.Else3) : Type 0 where
-  pub k-read : back (c .before .drop .result) ≡ K (c .before .before .before .before .before .before .before .before .before .before .args .c) (c .before .before .before .before .before .before .before .before .before .before .args .de) (c .before .before .before .before .before .before .before .before .before .before .args .dn)
-  pub least : pos 0 ≤ℤ K (c .before .before .before .before .before .before .before .before .before .before .args .c) (c .before .before .before .before .before .before .before .before .before .before .args .de) (c .before .before .before .before .before .before .before .before .before .before .args .dn)
-  pub most : natAbs (K (c .before .before .before .before .before .before .before .before .before .before .args .c) (c .before .before .before .before .before .before .before .before .before .before .args .de) (c .before .before .before .before .before .before .before .before .before .before .args .dn)) ≤ 1_980_000_000
+  pub k-read : back (c .before .versine .result) ≡ K (start-at-else3 c .args .k) (start-at-else3 c .args .de) (start-at-else3 c .args .dn)
+  pub least : pos 0 ≤ℤ K (start-at-else3 c .args .k) (start-at-else3 c .args .de) (start-at-else3 c .args .dn)
+  pub most : natAbs (K (start-at-else3 c .args .k) (start-at-else3 c .args .de) (start-at-else3 c .args .dn)) ≤ 1_980_000_000
 
 near-by : (c : tie.Else3) → Near c
 near-by c =
-    let k = K-near (K (c .before .before .before .before .before .before .before .before .before .before .args .c) (c .before .before .before .before .before .before .before .before .before .before .args .de) (c .before .before .before .before .before .before .before .before .before .before .args .dn)) (K-natural (c .before .before .before .before .before .before .before .before .before .before .args .c) (c .before .before .before .before .before .before .before .before .before .before .args .de) (c .before .before .before .before .before .before .before .before .before .before .args .dn)) (enough c) in
+    let k = K-near (K (start-at-else3 c .args .k) (start-at-else3 c .args .de) (start-at-else3 c .args .dn))
+    (K-natural (start-at-else3 c .args .k) (start-at-else3 c .args .de) (start-at-else3 c .args .dn)) (enough c) in
     record { k-read = back-is (K-is (c .before)) (K-size (c .before)) (lit< tt); least = k .0; most = k .1 }
 
 point-requires : tie.Need-point-requires
 point-requires c κs =
-    let o = sizes (c .before .before .before .before .before .before .before) in
-    let r = ratios (c .before .before .before) in
+    let o = sizes (else2-at-series c) in
+    let r = ratios (quotient2-at-series c) in
     let k = near-by (c .before) in
-    rw (r .x-read, r .y-read, k .k-read) (good (c .before .before .before .before .before .before .before .before .before) .turned, o .X-size, o .Y-size, k .least, k .most)
+    rw (r .x-read, r .y-read, k .k-read) (good (else1-at-series c) .centre, o .X-size, o .Y-size, k .least, k .most)
 
-point-is : (c : tie.After-point) → c .point .result ≡ found (c .before .before .before .before .before .before .before .before .before .before .before .before .args .c) (c .before .before .before .before .before .before .before .before .before .before .before .before .args .de) (c .before .before .before .before .before .before .before .before .before .before .before .before .args .dn)
+point-is : (c : tie.After-point) → c .point .result ≡ found (start-at-point c .args .k) (start-at-point c .args .de) (start-at-point c .args .dn)
 unfolding found
 point-is c =
-    let r = ratios (c .before .before .before .before) in
+    let r = ratios (quotient2-at-point c) in
     let k = near-by (c .before .before) in
     c .point .ensures ∙ rw (r .x-read, r .y-read, k .k-read)
 
-found-sized : (c : tie.After-point) → SmallPoint (found (c .before .before .before .before .before .before .before .before .before .before .before .before .args .c) (c .before .before .before .before .before .before .before .before .before .before .before .before .args .de) (c .before .before .before .before .before .before .before .before .before .before .before .before .args .dn))
+found-sized : (c : tie.After-point) → SmallPoint (found (start-at-point c .args .k) (start-at-point c .args .de) (start-at-point c .args .dn))
 unfolding found
 found-sized c =
-    let o = sizes (c .before .before .before .before .before .before .before .before) in
+    let o = sizes (else2-at-point c) in
     let k = near-by (c .before .before) in
-    point-sized (K (c .before .before .before .before .before .before .before .before .before .before .before .before .args .c) (c .before .before .before .before .before .before .before .before .before .before .before .before .args .de) (c .before .before .before .before .before .before .before .before .before .before .before .before .args .dn)) (k .least) (k .most) (c .before .before .before .before .before .before .before .before .before .before .before .before .args .c) (good (c .before .before .before .before .before .before .before .before .before .before) .turned) (X (c .before .before .before .before .before .before .before .before .before .before .before .before .args .c) (c .before .before .before .before .before .before .before .before .before .before .before .before .args .de)) (Y (c .before .before .before .before .before .before .before .before .before .before .before .before .args .c) (c .before .before .before .before .before .before .before .before .before .before .before .before .args .dn)) (o .X-size) (o .Y-size)
+    point-sized (K (start-at-point c .args .k) (start-at-point c .args .de) (start-at-point c .args .dn)) (k .least) (k .most)
+    (start-at-point c .args .k) (good (else1-at-point c) .centre) (X (start-at-point c .args .k) (start-at-point c .args .de))
+    (Y (start-at-point c .args .k) (start-at-point c .args .dn)) (o .X-size) (o .Y-size)
 
-lon0-small : (c : tie.After-point) → natAbs (c .before .before .before .before .before .before .before .before .before .before .before .before .args .p .lon0) ≤ half-turn
-lon0-small c = accepted (c .before .before .before .before .before .before .before .before .before .before .before .before .args .p) (c .before .before .before .before .before .before .before .before .before .before .before .before .pre .1) .lon0-size
+lon0-small : (c : tie.After-point) → natAbs (start-at-point c .args .p .lon0) ≤ half-turn
+lon0-small c = accepted (start-at-point c .args .p) (start-at-point c .pre .0 .accepted) .lon0-size
 
 position-requires : tie.Need-position-requires
 position-requires c κs =
-    let start = c .before .before .before .before .before .before .before .before .before .before .before .before .before in (
-      start .pre .0,
-      good (c .before .before .before .before .before .before .before .before .before .before .before) .small,
+    let start = start-at-struct-told4 c in (
+      start .pre .0 .table,
+      good (else1-at-struct-told4 c) .small,
       rw (kept (start .args .p .lon0) (lon0-small (c .before)) (lit< tt)) (lon0-small (c .before)),
       rw (point-is (c .before)) (found-sized (c .before)),
     )
@@ -184,10 +308,11 @@ position-requires c κs =
 returns-4 : tie.Need-returns-4
 unfolding near-enough
 returns-4 c =
-    let start = c .before .before .before .before .before .before .before .before .before .before .before .before .before .before in
+    let start = start-at-position c in
     c .position .ensures
-    ∙ ap₂ (positionOf (start .args .c .series)) (kept (start .args .p .lon0) (lon0-small (c .before .before)) (lit< tt)) (point-is (c .before .before))
-    ∙ sym (unprojected-position (c .before .before .before .before .before .before .before .before .before .before .before .before .before .before .args .p) (c .before .before .before .before .before .before .before .before .before .before .before .before .before .before .args .c) (c .before .before .before .before .before .before .before .before .before .before .before .before .before .before .args .de) (c .before .before .before .before .before .before .before .before .before .before .before .before .before .before .args .dn) (not-origin (c .before .before .before .before .before .before .before .before .before .before .before .before)) (on-it (c .before .before .before .before .before .before .before .before .before .before)) (le-leZ (enough (c .before .before .before .before))))
+    ∙ ap₂ (positionOf (start .args .k .series)) (kept (start .args .p .lon0) (lon0-small (c .before .before)) (lit< tt)) (point-is (c .before .before))
+    ∙ sym (from-position (start-at-position c .args .p) (start-at-position c .args .k) (start-at-position c .args .de) (start-at-position c .args .dn)
+    (not-origin (else1-at-position c)) (on-it (else2-at-position c)) (le-leZ (enough (else3-at-position c))))
 
 pub unproject-spec : {M : Type 1} → statement M
 unproject-spec =
@@ -199,7 +324,7 @@ unproject-spec =
     returns-2
     quotient-requires
     quotient-requires-2
-    drop-requires
+    versine-requires
     sub-if3
     returns-3
     point-requires

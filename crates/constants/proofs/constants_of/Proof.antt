@@ -1,4 +1,5 @@
--- `constants::constants_of` meets its contract: each call gives the paper's number, and for an accepted set each is so small that the next call may take it, and D is above 0. Assumes nothing.
+-- `constants::constants_of` meets its contract: each call gives the paper's number, and for an accepted set each is so small that
+-- the next call may take it, and D is above 0. Assumes nothing.
 use mathlib.Core.Path.{_≡_, ap, _∙_}
 use Prim.Native.Nat.{_≤_}
 use native.Mathlib.Omega.{arith}
@@ -77,7 +78,8 @@ to-authalic-requires c κs =
     let start = c .before .before .before .before .before .before in
     (start .pre .0, rw (series-is c) (series-small (start .args .p .e2) (e2-size start)), φ0-size start)
 
-β0-is : (c : tie.After-to-authalic) → c .to-authalic .result ≡ β0 (c .before .before .before .before .before .before .before .args .p .e2) (c .before .before .before .before .before .before .before .args .p .lat0)
+β0-is : (c : tie.After-to-authalic) → c .to-authalic .result ≡ β0 (c .before .before .before .before .before .before .before .args .p .e2)
+    (c .before .before .before .before .before .before .before .args .p .lat0)
 unfolding β0
 β0-is c =
     let start = c .before .before .before .before .before .before .before in
@@ -91,7 +93,8 @@ unfolding β0
 cosine-requires : tie.Need-cosine-requires
 cosine-requires c κs = (c .before .before .before .before .before .before .before .pre .0, β0-within c)
 
-c0-is : (c : tie.After-cosine) → back (c .cosine .result) ≡ C0 (c .before .before .before .before .before .before .before .before .args .p .e2) (c .before .before .before .before .before .before .before .before .args .p .lat0)
+c0-is : (c : tie.After-cosine) → back (c .cosine .result) ≡ C0 (c .before .before .before .before .before .before .before .before .args .p .e2)
+    (c .before .before .before .before .before .before .before .before .args .p .lat0)
 unfolding C0
 c0-is c = returned (c .cosine .ok) ∙ c .cosine .ensures ∙ ap (λ (b : Authalic). cosine (b .0)) (β0-is (c .before))
 
@@ -102,7 +105,9 @@ axis-ratio-requires c κs =
     let start = c .before .before .before .before .before .before .before .before in
     rw (e2-is start) (start .pre .0, e2-size start, set start .lat0-accepted, j-is (c .before .before .before), c0-is c)
 
-d-is : (c : tie.After-axis-ratio) → back (c .axis-ratio .result) ≡ D (c .before .before .before .before .before .before .before .before .before .args .p .e2) (c .before .before .before .before .before .before .before .before .before .args .p .lat0)
+d-is : (c : tie.After-axis-ratio) →
+    back (c .axis-ratio .result) ≡ D (c .before .before .before .before .before .before .before .before .before .args .p .e2)
+    (c .before .before .before .before .before .before .before .before .before .args .p .lat0)
 d-is c =
     let start = c .before .before .before .before .before .before .before .before .before in
     returned (c .axis-ratio .ok) ∙ c .axis-ratio .ensures ∙ ap (λ (e2 : ℤ). D e2 (start .args .p .lat0)) (e2-is start)
@@ -113,27 +118,38 @@ d-between c = D-between (c .args .p .e2) (c .args .p .lat0) (e2-size c) (set c .
 product-requires-3 : tie.Need-product-requires-3
 product-requires-3 c κs =
     let start = c .before .before .before .before .before .before .before .before .before .before in
-    rw (a-is start, j-is (c .before .before .before .before .before)) (omega (arith, set start .a-between .most), omega (arith, J-high (start .args .p .e2) (e2-size start)))
+    rw (a-is start, j-is (c .before .before .before .before .before))
+    (omega (arith, set start .a-between .most), omega (arith, J-high (start .args .p .e2) (e2-size start)))
 
-rq-is : (c : tie.After-product3) → back (c .product3 .result) ≡ Rq (c .before .before .before .before .before .before .before .before .before .before .before .args .p)
+rq-is : (c : tie.After-product3) →
+    back (c .product3 .result) ≡ Rq (c .before .before .before .before .before .before .before .before .before .before .before .args .p)
 unfolding Rq
-rq-is c = product-is (c .product3 .ok) (c .product3 .ensures) (a-is (c .before .before .before .before .before .before .before .before .before .before .before)) (j-is (c .before .before .before .before .before .before))
+rq-is c = product-is (c .product3 .ok) (c .product3 .ensures)
+    (a-is (c .before .before .before .before .before .before .before .before .before .before .before))
+    (j-is (c .before .before .before .before .before .before))
 
 -- ---- the fields
 
 sine-requires : tie.Need-sine-requires
-sine-requires c κs = (c .before .before .before .before .before .before .before .before .before .before .before .pre .0, β0-within (c .before .before .before .before))
+sine-requires c κs = (
+  c .before .before .before .before .before .before .before .before .before .before .before .pre .0,
+  β0-within (c .before .before .before .before),
+)
 
-s0-is : (c : tie.After-sine) → back (c .sine .result) ≡ S0 (c .before .before .before .before .before .before .before .before .before .before .before .before .args .p .e2) (c .before .before .before .before .before .before .before .before .before .before .before .before .args .p .lat0)
+s0-is : (c : tie.After-sine) →
+    back (c .sine .result) ≡ S0 (c .before .before .before .before .before .before .before .before .before .before .before .before .args .p .e2)
+    (c .before .before .before .before .before .before .before .before .before .before .before .before .args .p .lat0)
 unfolding S0
 s0-is c = returned (c .sine .ok) ∙ c .sine .ensures ∙ ap (λ (b : Authalic). sine (b .0)) (β0-is (c .before .before .before .before .before))
 
 product-requires-4 : tie.Need-product-requires-4
 product-requires-4 c κs =
     let start = c .before .before .before .before .before .before .before .before .before .before .before .before in
-    rw (rq-is (c .before), d-is (c .before .before .before)) (omega (arith, Rq-between (start .args .p) (set start) .most), omega (arith, d-between start .most))
+    rw (rq-is (c .before), d-is (c .before .before .before))
+    (omega (arith, Rq-between (start .args .p) (set start) .most), omega (arith, d-between start .most))
 
-rd-is : (c : tie.After-product4) → back (c .product4 .result) ≡ RD (c .before .before .before .before .before .before .before .before .before .before .before .before .before .args .p)
+rd-is : (c : tie.After-product4) →
+    back (c .product4 .result) ≡ RD (c .before .before .before .before .before .before .before .before .before .before .before .before .before .args .p)
 unfolding RD
 rd-is c = product-is (c .product4 .ok) (c .product4 .ensures) (rq-is (c .before .before)) (d-is (c .before .before .before .before))
 
@@ -141,16 +157,24 @@ quotient-requires : tie.Need-quotient-requires
 quotient-requires c κs =
     let start = c .before .before .before .before .before .before .before .before .before .before .before .before .before in
     let d = d-between start in
-    rw (rq-is (c .before .before), d-is (c .before .before .before .before)) (omega (arith, Rq-between (start .args .p) (set start) .most), at-least 1 (d .natural) (omega arith), omega arith)
+    rw (rq-is (c .before .before), d-is (c .before .before .before .before))
+    (omega (arith, Rq-between (start .args .p) (set start) .most), at-least 1 (d .natural) (omega arith), omega arith)
 
-rn-is : (c : tie.After-quotient) → back (c .quotient .result) ≡ RN (c .before .before .before .before .before .before .before .before .before .before .before .before .before .before .args .p)
+rn-is : (c : tie.After-quotient) →
+    back (c .quotient .result) ≡ RN (c .before .before .before .before .before .before .before .before .before .before .before .before .before .before .args .p)
 unfolding RN
 rn-is c = quotient-is (c .quotient .ok) (c .quotient .ensures) (rq-is (c .before .before .before)) (d-is (c .before .before .before .before .before))
 
 returns : tie.Need-returns
 unfolding constantsOf
 returns c =
-    rw (series-is (c .before .before .before .before .before .before .before .before), s0-is (c .before .before), c0-is (c .before .before .before .before .before .before), rd-is (c .before), rn-is c)
+    rw (
+      series-is (c .before .before .before .before .before .before .before .before),
+      s0-is (c .before .before),
+      c0-is (c .before .before .before .before .before .before),
+      rd-is (c .before),
+      rn-is c,
+    )
 
 pub constants-of-spec : {M : Type 1} → statement M
 constants-of-spec =

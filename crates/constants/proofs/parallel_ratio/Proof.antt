@@ -61,7 +61,9 @@ unit-root-requires c κs =
     let v = v-about (c .before .before .before .before) in
     rw (back-is (v-is (c .before)) (v .high) (lit< tt)) (at-least 0 (v .same) zero-le, omega arith)
 
-root-is : (c : tie.After-unit-root) → back (c .unit-root .result) ≡ pos (root (natAbs («V» (c .before .before .before .before .before .args .e2) (c .before .before .before .before .before .args .lat0) *ℤ U)))
+root-is : (c : tie.After-unit-root) →
+    back (c .unit-root .result) ≡ pos
+    (root (natAbs («V» (c .before .before .before .before .before .args .e2) (c .before .before .before .before .before .args .lat0) *ℤ U)))
 root-is c =
     let v = v-about (c .before .before .before .before .before) in
     unit-root-is (c .unit-root .ok) (c .unit-root .ensures) (back-is (v-is (c .before .before)) (v .high) (lit< tt))

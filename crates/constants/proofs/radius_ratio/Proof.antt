@@ -53,12 +53,18 @@ thirty-fifth-is : (c : tie.After-near3) → back (c .near3 .result) ≡ near (e6
 thirty-fifth-is c = near-is (c .near3 .ok) 35 (c .near3 .ensures) (e6-is (c .before .before .before))
 
 -- what is left of U is W
-w-is : (c : tie.After-near3) → back (back (pos unit -ℤ back (c .before .before .near .result)) -ℤ back (c .before .near2 .result)) -ℤ back (c .near3 .result) ≡ W (c .before .before .before .args .e2)
+w-is : (c : tie.After-near3) → back (back (pos unit -ℤ back (c .before .before .near .result)) -ℤ back (c .before .near2 .result)) -ℤ back
+    (c .near3 .result) ≡ W (c .before .before .before .args .e2)
 unfolding W
 w-is c =
     let start = c .before .before .before in
     rw (third-is (c .before .before), fifteenth-is (c .before), thirty-fifth-is c)
-    (read (search (code, third (start .args .e2) (start .pre .0), fifteenth (start .args .e2) (start .pre .0), thirty-fifth (start .args .e2) (start .pre .0)) depth 40 fits 20000) tt)
+    (read (search (
+      code,
+      third (start .args .e2) (start .pre .0),
+      fifteenth (start .args .e2) (start .pre .0),
+      thirty-fifth (start .args .e2) (start .pre .0),
+    ) depth 40 fits 20000) tt)
 
 w-about : (c : tie.Start) → About (W (c .args .e2)) unit 3_340_029
 w-about c = W-about (c .args .e2) (c .pre .0)

@@ -44,7 +44,8 @@ mul-near c = let s = sizes (c .before) in fits (search code depth 40 fits 20000)
 near-requires-2 : tie.Need-near-requires-2
 near-requires-2 c κs = let s = sizes (c .before) in (lit< tt, rw as-size (read-room 90 (search code depth 40 fits 20000) tt))
 
-k2-start-is : (c : tie.After-near2) → back (c .before .near .result) +ℤ back (c .near2 .result) ≡ near (c .before .before .args .e2) 3 +ℤ near (pos 31 *ℤ e4 (c .before .before .args .e2)) 180
+k2-start-is : (c : tie.After-near2) → back (c .before .near .result) +ℤ back (c .near2 .result) ≡ near (c .before .before .args .e2) 3 +ℤ near
+    (pos 31 *ℤ e4 (c .before .before .args .e2)) 180
 k2-start-is c =
     let start = c .before .before in
     let s = sizes start in
@@ -63,7 +64,8 @@ near-requires-3 c κs =
     let s = sizes (c .before .before) in
     (lit< tt, rw as-size (read-room 280 (search code depth 40 fits 20000) tt))
 
-k2-is : (c : tie.After-near3) → back (back (c .before .before .near .result) +ℤ back (c .before .near2 .result)) +ℤ back (c .near3 .result) ≡ k2 (c .before .before .before .args .e2)
+k2-is : (c : tie.After-near3) → back (back (c .before .before .near .result) +ℤ back (c .before .near2 .result)) +ℤ back (c .near3 .result) ≡ k2
+    (c .before .before .before .args .e2)
 unfolding k2
 k2-is c =
     let start = c .before .before .before in
@@ -147,7 +149,8 @@ returns c =
     let start = c .before .before .before .before .before .before .before .before .before in
     let six = c .before .before .before in
     rw (
-      returned (c .before .before .in-mas .ok) ∙ c .before .before .in-mas .ensures ∙ ap to-mas (back-is (k2-is (six .before .before .before)) (k2-small start) (lit< tt)),
+      returned (c .before .before .in-mas .ok) ∙ c .before .before .in-mas .ensures
+          ∙ ap to-mas (back-is (k2-is (six .before .before .before)) (k2-small start) (lit< tt)),
       returned (c .before .in-mas2 .ok) ∙ c .before .in-mas2 .ensures ∙ ap to-mas (back-is (k4-is (six .before)) (k4-small start) (lit< tt)),
       returned (c .in-mas3 .ok) ∙ c .in-mas3 .ensures ∙ ap to-mas (k6-is six),
     )

@@ -35,7 +35,8 @@ returns-2 c =
     let f = c .before .before .before .fits in
     c .is-within2 .ensures
     ∙ passed-on _ _ _ _ _ _ (toZ-ofZ (f .least)) (toZ-ofZ (f .most)) (toZ-ofZ (f .y))
-    ∙ sym (ap (λ (b : Bool). b && within (a .least) (a .most) (a .y)) (sym (first-is (c .before .before)) ∙ not-false (c .before .before .is-within .result) (c .before .if1 .left)))
+    ∙ sym (ap (λ (b : Bool). b && within (a .least) (a .most) (a .y))
+    (sym (first-is (c .before .before)) ∙ not-false (c .before .before .is-within .result) (c .before .if1 .left)))
 
 pub are-within-spec : {M : Type 1} → statement M
 are-within-spec = tie.close (tie.spec is-within-requires returns is-within-requires-2 returns-2)

@@ -15,7 +15,8 @@ returns : tie.Need-returns
 unfolding on-plane
 returns c =
     c .are-within .ensures
-    ∙ ap₂ (λ (x y : ℤ). within (negℤ (pos 5_000_000_000)) (pos 5_000_000_000) x && within (negℤ (pos 5_000_000_000)) (pos 5_000_000_000) y) (toZ-ofZ (c .before .fits .easting)) (toZ-ofZ (c .before .fits .northing))
+    ∙ ap₂ (λ (x y : ℤ). within (negℤ (pos 5_000_000_000)) (pos 5_000_000_000) x && within (negℤ (pos 5_000_000_000)) (pos 5_000_000_000) y)
+    (toZ-ofZ (c .before .fits .easting)) (toZ-ofZ (c .before .fits .northing))
 
 pub is-on-plane-spec : {M : Type 1} → statement M
 is-on-plane-spec = tie.close (tie.spec are-within-requires returns)

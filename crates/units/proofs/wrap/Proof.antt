@@ -19,7 +19,8 @@ sub-result c = fits (search code depth 40 fits 20000) tt
 returns-2 : tie.Need-returns-2
 returns-2 c =
     read (search code depth 40 fits 20000) tt
-    ∙ sym (wrapped-high (c .before .before .args .lon) (lt-taken (rw as-lt at (c .if2 .taken)) (search code depth 40 fits 20000) (search code depth 40 fits 20000) tt))
+    ∙ sym (wrapped-high (c .before .before .args .lon)
+    (lt-taken (rw as-lt at (c .if2 .taken)) (search code depth 40 fits 20000) (search code depth 40 fits 20000) tt))
 
 returns-3 : tie.Need-returns-3
 returns-3 c =

@@ -1,4 +1,4 @@
--- `inverse::drop` meets its contract: the squares and their sum are within 64 bits. Assumes nothing.
+-- `versine` meets its contract: the squares and their sum are within 64 bits. Assumes nothing.
 use mathlib.Core.Path.{ap, _∙_}
 use Prim.Native.Nat.{_*_}
 use lib.Dec.{lit<}
@@ -8,8 +8,8 @@ use Rattle.proof_kit.proofs.Size.{as-size}
 use Rattle.integers.specs.Near.{near}
 use Rattle.units.specs.Units.{unit}
 use Rattle.azimuthal_inverse.specs.Steps.{versineOf}
-use Rattle.azimuthal_inverse.proofs.drop.Statement.{statement}
-use Rattle.azimuthal_inverse.proofs.drop.Tie as tie
+use Rattle.azimuthal_inverse.proofs.versine.Statement.{statement}
+use Rattle.azimuthal_inverse.proofs.versine.Tie as tie
 
 mul-near : tie.Need-mul-near
 mul-near c = fits (search code depth 40 fits 20000) tt
@@ -29,5 +29,5 @@ returns c =
     let given = c .before .pre in
     returned (c .near .ok) ∙ c .near .ensures ∙ ap (λ (n : ℤ). near n (2 * unit)) (read (search (code, given .0, given .1) depth 40 fits 20000) tt)
 
-pub drop-spec : {M : Type 1} → statement M
-drop-spec = tie.close (tie.spec mul-near mul-near-2 add-near near-requires returns)
+pub versine-spec : {M : Type 1} → statement M
+versine-spec = tie.close (tie.spec mul-near mul-near-2 add-near near-requires returns)
