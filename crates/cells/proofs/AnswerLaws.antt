@@ -1,6 +1,6 @@
 -- The answer by the two tests that decide it, what it tells, and what it says of cells. The chain of tests gives 3 or 0, so a refusal is 3 and
 -- numbers are answered only where both tests pass; the numbers are the cell numbers, and those are the only cell. Assumes nothing.
-use mathlib.Core.Path.{_≡_, refl, sym, ap, ap₂, _∙_, subst}
+use mathlib.Core.Path.{_≡_, refl, sym, ap₂, _∙_, subst}
 use mathlib.Core.Bool.{Bool, true, false}
 use Prim.Native.Nat.{ℕ, zero, suc, _<_}
 use native.Mathlib.Omega.{arith}

@@ -5,14 +5,14 @@
 use mathlib.Core.Path.{_≡_, refl, sym, ap, _∙_}
 use mathlib.Core.Bool.{Bool}
 use mathlib.Core.List.{[], _∷_}
-use Prim.Native.Nat.{ℕ, zero, suc, _+_, _*_, _/_, _<_, _≤_}
+use Prim.Native.Nat.{ℕ, zero, suc, _*_, _/_, _<_, _≤_}
 use native.Mathlib.Nat.{div-eq-of-lt-le, div-mul-le-self, lt-div-mul-add}
 use native.Mathlib.Omega.{arith}
 use lib.Dec.{leb·suc-zero}
 use lib.IntN.{ℤ, pos, negsuc, negℤ, natAbs, _-ℤ_, _*ℤ_}
 use Rattle.proof_kit.proofs.Laws.{natAbs-parts, parts--, one-part, P-*, N-*}
 use Rattle.proof_kit.proofs.Ring.{ring, quote}
-use Rattle.proof_kit.proofs.Size.{abs-neg, abs-mul}
+use Rattle.proof_kit.proofs.Size.{abs-neg, abs-from, abs-mul}
 use Rattle.integers.specs.Near.{signed}
 use Rattle.cells.specs.Cells.{cellNumber, InCell}
 use Rattle.cells.specs.Theorems.{OneCell}
@@ -62,10 +62,8 @@ cell-remainder side h (negsuc n) =
 only-size : (side : ℕ) (k z : ℤ) → InCell side k z → natAbs z / side ≡ natAbs k
 only-size side k z i =
     let edge : ℤ = k *ℤ pos side in
-    let parts : natAbs z ≤ natAbs edge + natAbs (z -ℤ edge) =
-    omega (arith, natAbs-parts z, natAbs-parts edge, natAbs-parts (z -ℤ edge), parts-- z edge, one-part z) in
     let size : natAbs edge ≡ natAbs k * side = abs-mul k (pos side) in
-    div-eq-of-lt-le side (omega (arith, size, i .reached)) (omega (arith, size, parts, i .remainder))
+    div-eq-of-lt-le side (omega (arith, size, i .reached)) (omega (arith, size, abs-from z edge, i .remainder))
 
 -- where the signs differ, the sizes add, and at least a side is left
 across : (side n m : ℕ) → natAbs (pos n -ℤ negsuc m *ℤ pos side) < side → ⊥
