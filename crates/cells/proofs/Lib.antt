@@ -1,3 +1,4 @@
 pub mod Sides
-pub mod CellLaws
+pub mod NumberLaws
+pub mod AnswerLaws
 pub mod Witnesses

@@ -1,4 +1,5 @@
--- What is known of an accepted side. Assumes nothing.
+-- What is known of an accepted side. The code compares bits: bits say which number is held, so a side is the one whose bits it has and no
+-- other; and none of the three sides is 0, 1 or negative, by computation. Assumes nothing.
 use mathlib.Core.Path.{_≡_, sym, ap, _∙_, subst}
 use mathlib.Core.Bool.{true, false}
 use Prim.Native.Nat.{ℕ, zero, suc, _<_}

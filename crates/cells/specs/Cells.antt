@@ -1,20 +1,18 @@
--- Document 01, "Cells": the numbers of the cell that a position lies in. Sides and coordinates are in cm.
-use Prim.Native.Nat.{ℕ, _/_, _<_, _≤_}
-use mathlib.Core.Bool.{Bool, cond, _||_}
+-- Document 01, "Cells": the numbers of the cell that a position lies in, or the refusal. Sides and coordinates are in cm.
+use Prim.Native.Nat.{ℕ, zero, suc, _/_, _<_, _≤_}
+use mathlib.Core.Bool.{Bool, _||_}
 use lib.IntN.{ℤ, pos, natAbs, _-ℤ_, _*ℤ_}
 use lib.Signed.{ltZ}
 use Rattle.integers.specs.Near.{signed}
 use Rattle.units.specs.Spans.{same, on-plane}
-use Rattle.units.specs.Refusals.{unless}
+use Rattle.units.specs.Refusals.{out-of-limits, unless}
 use Rattle.units.specs.Answers.{Told, accepted, refused, told}
 use Rattle.cells.specs.declared.CellAnswer.{CellAnswer}
 use Rattle.cells.specs.declared.CellAnswer.the-variants.{Cell, Refused}
 
--- "a side of 10,000, 100,000 or 1,000,000 cm"
-unfoldable pub accepted-side : ℤ → Bool
-accepted-side side = same side (pos 10_000) || same side (pos 100_000) || same side (pos 1_000_000)
+-- ---- the number along an axis
 
--- "divided by the side, the fraction dropped": the size is divided and the sign put back, so −1 cm lies in cell 0.
+-- "E and N divided by the side, the fraction dropped": the size is divided and the sign put back, so −1 cm lies in cell 0.
 unfoldable pub cellNumber : ℕ → ℤ → ℤ
 cellNumber side coordinate = signed (ltZ coordinate (pos 0)) (natAbs coordinate / side)
 
@@ -23,20 +21,29 @@ pub record InCell (side : ℕ) (number coordinate : ℤ) : Type 0 where
   pub reached : natAbs (number *ℤ pos side) ≤ natAbs coordinate
   pub remainder : natAbs (coordinate -ℤ number *ℤ pos side) < side
 
--- "Another side, or a position beyond ±5,000,000,000 cm: refused 3."
-unfoldable pub cellOf : ℤ → ℤ → ℤ → CellAnswer
-cellOf side E N =
-    cond (accepted-side side)
-    (cond (on-plane E N) (Cell (cellNumber (natAbs side) E) (cellNumber (natAbs side) N)) (Refused 3))
-    (Refused 3)
+-- ---- the answer
 
--- the cell's numbers east and north, or the refusal number
+-- "a side of 10,000, 100,000 or 1,000,000 cm"
+unfoldable pub accepted-side : ℤ → Bool
+accepted-side side = same side (pos 10_000) || same side (pos 100_000) || same side (pos 1_000_000)
+
+-- "Another side, or a position beyond ±5,000,000,000 cm: refused 3."
+unfoldable pub cellRefusal : ℤ → ℤ → ℤ → ℕ
+cellRefusal side E N = unless (accepted-side side) out-of-limits (unless (on-plane E N) out-of-limits 0)
+
+-- the cell's numbers where the refusal number is 0, else the number alone
+abbrev pub cellAnswer : ℕ → ℤ → ℤ → CellAnswer
+cellAnswer zero east north = Cell east north
+cellAnswer (suc n) east north = Refused (suc n)
+
+-- the number and the values of each case
 abbrev pub cell-told : CellAnswer → Told
 cell-told (Cell east north) = accepted east north
 cell-told (Refused number) = refused number
 
-unfoldable pub cellRefusal : ℤ → ℤ → ℤ → ℕ
-cellRefusal side E N = unless (accepted-side side) 3 (unless (on-plane E N) 3 0)
+-- what `cell` answers, and what its answer tells
+unfoldable pub cellOf : ℤ → ℤ → ℤ → CellAnswer
+cellOf side E N = cellAnswer (cellRefusal side E N) (cellNumber (natAbs side) E) (cellNumber (natAbs side) N)
 
 unfoldable pub cellTold : ℤ → ℤ → ℤ → Told
 cellTold side E N = told (cellRefusal side E N) (cellNumber (natAbs side) E) (cellNumber (natAbs side) N)

@@ -2,6 +2,7 @@
 use integers::magnitude;
 use integers::signed;
 use units::is_on_plane;
+use units::refusals::OUT_OF_LIMITS;
 ghost use mathlib.Core.Path.{_≡_};
 ghost use mathlib.Core.Bool.{true};
 ghost use Prim.Native.Nat.{_/_, _^_, _<_, _≤_};
@@ -14,12 +15,19 @@ pub enum CellAnswer {
     Refused(u8),
 }
 
-// Whether cells may have this side: 100 m, 1 km or 10 km.
+// The sides of 100 m, 1 km and 10 km.
+const SIDE_100_M: i64 = 10_000;
+
+const SIDE_1_KM: i64 = 100_000;
+
+const SIDE_10_KM: i64 = 1_000_000;
+
+// Whether cells may have this side.
 pub fn is_side(side: i64) -> bool
     ensures { λ r. ⌜ r ≡ accepted-side side ⌝ }
 {
     match side {
-        10000 | 100000 | 1000000 => true,
+        SIDE_100_M | SIDE_1_KM | SIDE_10_KM => true,
         _ => false,
     }
 }
@@ -48,10 +56,10 @@ pub fn cell(side: i64, easting: i64, northing: i64) -> CellAnswer
     ensures { λ r. ⌜ (r ≡ cellOf side easting northing) × (cell-told r ≡ cellTold side easting northing) ⌝ }
 {
     if !is_side(side) {
-        return CellAnswer::Refused(3);
+        return CellAnswer::Refused(OUT_OF_LIMITS);
     }
     if !is_on_plane(easting, northing) {
-        return CellAnswer::Refused(3);
+        return CellAnswer::Refused(OUT_OF_LIMITS);
     }
     CellAnswer::Cell {
         east: cell_number(side, easting),

@@ -1,5 +1,5 @@
--- The tests of a coordinate as bounds: a double passes the test of a limit exactly if it is finite and its size is at most the limit.
--- Assumes nothing.
+-- The tests of a coordinate as bounds: a double passes the test of a limit exactly if it is finite and its size is at most the limit. A
+-- comparison of two finite doubles compares their values as fractions, and a NaN fails every comparison. Assumes nothing.
 use mathlib.Core.Path.{_≡_, refl, sym, ap, _∙_}
 use mathlib.Core.Bool.{Bool, true, false, not, and-true, and-false, or-false, false≢true}
 use Prim.Native.Nat.{ℕ, _*_, _^_, _≤_, _<_}
@@ -11,7 +11,7 @@ use lib.Ieee.{Float, nan, inf, fin, up, down, lt, neg, isNan}
 use lib.Ieee.Exact.{HasValue}
 use lib.Ieee.Fits.{down-pos}
 use borrow.Author.Tests.{ltb-false, le-ltb, not-true}
-use Rattle.floats.specs.Limits.{isFinite, beyond, within}
+use Rattle.floats.specs.Limits.{isFinite, beyond, withinLimit}
 
 -- x is finite, and at most `most` in size
 abbrev pub AtMost : ℕ → Float → Type 0
@@ -58,16 +58,16 @@ unfolding beyond lt neg
 beyond-is l p false m e = refl
 beyond-is l p true m e = or-false (ltb (l * 2 ^ p * down e) (m * up e * 1))
 
-pub within-at-most : (l p : ℕ) (x : Float) → within (fin false l (pos p)) x ≡ true → AtMost (l * 2 ^ p) x
-unfolding within isFinite
+pub within-at-most : (l p : ℕ) (x : Float) → withinLimit (fin false l (pos p)) x ≡ true → AtMost (l * 2 ^ p) x
+unfolding withinLimit isFinite
 within-at-most l p nan h = absurd (false≢true h)
 within-at-most l p (inf s) h = absurd (false≢true h)
 within-at-most l p (fin s m e) h =
     let test : ltb (l * 2 ^ p * down e) (m * up e * 1) ≡ false = sym (beyond-is l p s m e) ∙ not-true (beyond (fin false l (pos p)) (fin s m e)) h in
     omega (arith, ltb-false (l * 2 ^ p * down e) (m * up e * 1) test)
 
-pub at-most-within : (l p : ℕ) (x : Float) → AtMost (l * 2 ^ p) x → within (fin false l (pos p)) x ≡ true
-unfolding within isFinite
+pub at-most-within : (l p : ℕ) (x : Float) → AtMost (l * 2 ^ p) x → withinLimit (fin false l (pos p)) x ≡ true
+unfolding withinLimit isFinite
 at-most-within l p nan h = absurd h
 at-most-within l p (inf s) h = absurd h
 at-most-within l p (fin s m e) h =
@@ -75,21 +75,21 @@ at-most-within l p (fin s m e) h =
     ap not (beyond-is l p s m e ∙ le-ltb (l * 2 ^ p * down e) (m * up e * 1) size)
 
 -- a test with a higher limit passes too
-pub within-more : (l p m q : ℕ) (x : Float) → l * 2 ^ p ≤ m * 2 ^ q → within (fin false l (pos p)) x ≡ true → within (fin false m (pos q)) x ≡ true
+pub within-more : (l p m q : ℕ) (x : Float) → l * 2 ^ p ≤ m * 2 ^ q → withinLimit (fin false l (pos p)) x ≡ true → withinLimit (fin false m (pos q)) x ≡ true
 within-more l p m q x more h = at-most-within m q x (at-most-more (l * 2 ^ p) (m * 2 ^ q) x more (within-at-most l p x h))
 
 -- ---- the tests as the code makes them
 
-pub low-fails : (limit x : Float) → lt x (neg limit) ≡ true → false ≡ within limit x
-unfolding within beyond
+pub low-fails : (limit x : Float) → lt x (neg limit) ≡ true → false ≡ withinLimit limit x
+unfolding withinLimit beyond
 low-fails limit x low = rw (low, and-false (isFinite x))
 
-pub high-fails : (limit x : Float) → lt x (neg limit) ≡ false → lt limit x ≡ true → false ≡ within limit x
-unfolding within beyond
+pub high-fails : (limit x : Float) → lt x (neg limit) ≡ false → lt limit x ≡ true → false ≡ withinLimit limit x
+unfolding withinLimit beyond
 high-fails limit x low high = rw (low, high, and-false (isFinite x))
 
-pub neither-fails : (limit x : Float) → lt x (neg limit) ≡ false → lt limit x ≡ false → isFinite x ≡ within limit x
-unfolding within beyond
+pub neither-fails : (limit x : Float) → lt x (neg limit) ≡ false → lt limit x ≡ false → isFinite x ≡ withinLimit limit x
+unfolding withinLimit beyond
 neither-fails limit x low high = rw (low, high, and-true (isFinite x))
 
 pub above-low : (x : Float) → lt (inf true) x ≡ true → lt x (inf false) ≡ isFinite x

@@ -1,5 +1,6 @@
--- The laws of degrees and metres, each proved once for every kind of coordinate: a whole number of units up to the limit is a double
--- that passes the limit's test, and taking it back gives the number again; a double that passes is a whole number up to the limit.
+-- The laws of degrees and metres, each proved once for every kind of coordinate. A whole number of units up to the limit is a double that
+-- passes the limit's test, since one rounding does not pass a whole number; taking it back gives the number again, since the rounding misses
+-- the quotient by less than half a unit. A double that passes is a whole number up to the limit, since rounding never falls.
 -- Assumes nothing.
 use mathlib.Core.Path.{_≡_, refl, sym, ap, _∙_, subst}
 use mathlib.Core.Bool.{Bool, true, false, not, _&&_}
@@ -13,9 +14,9 @@ use lib.Ieee.{Float, nan, inf, fin, up, down}
 use lib.Ieee.Fits.{down-pos}
 use Rattle.integers.specs.Near.{nearest, signed}
 use Rattle.integers.proofs.Rounding.{nearest-only, nearest-mono, nearest-whole, nearest-zero}
-use Rattle.units.specs.Units.{degree, metre}
+use Rattle.units.specs.Units.{right-angle, half-turn, degree, metre, plane-limit}
 use Rattle.floats.specs.Conversion.{wholeOf, floatOf}
-use Rattle.floats.specs.Limits.{isFinite, beyond, within, latitudeLimit, longitudeLimit, planeLimit}
+use Rattle.floats.specs.Limits.{isFinite, beyond, withinLimit, latitudeLimit, longitudeLimit, planeLimit}
 use Rattle.floats.proofs.Signs.{negative, signed-again, signed-size, signed-zero}
 use Rattle.floats.proofs.Bounds.{AtMost, at-most-finite, at-most-value, within-at-most, at-most-within, within-more}
 use Rattle.floats.proofs.Pattern.{whole-of-value}
@@ -31,13 +32,13 @@ pub record Coordinate (unit : ℕ) (limit : Float) (most : ℕ) : Type 0 where
   pub unit-small : unit ≤ 2 ^ 53
   pub most-small : most < 2 ^ 51
 
-pub latitude : Coordinate degree latitudeLimit 324_000_000
+pub latitude : Coordinate degree latitudeLimit right-angle
 latitude = record { digits = 45; twos = 1; limit-is = refl; most-is = refl; unit-some = lit< tt; unit-small = lit≤ tt; most-small = lit< tt }
 
-pub longitude : Coordinate degree longitudeLimit 648_000_000
+pub longitude : Coordinate degree longitudeLimit half-turn
 longitude = record { digits = 45; twos = 2; limit-is = refl; most-is = refl; unit-some = lit< tt; unit-small = lit≤ tt; most-small = lit< tt }
 
-pub plane : Coordinate metre planeLimit 5_000_000_000
+pub plane : Coordinate metre planeLimit plane-limit
 plane = record { digits = 390_625; twos = 7; limit-is = refl; most-is = refl; unit-some = lit< tt; unit-small = lit≤ tt; most-small = lit< tt }
 
 -- ---- out: a whole number of units as a double
@@ -55,9 +56,9 @@ module _ {unit : ℕ} {limit : Float} {most : ℕ} (kind : Coordinate unit limit
   pub float-finite : isFinite (floatOf unit n) ≡ true
   float-finite = at-most-finite (kind .digits * 2 ^ kind .twos) (floatOf unit n) at-most
 
-  pub float-within : within limit (floatOf unit n) ≡ true
+  pub float-within : withinLimit limit (floatOf unit n) ≡ true
   float-within =
-      ap (λ (l : Float). within l (floatOf unit n)) (kind .limit-is)
+      ap (λ (l : Float). withinLimit l (floatOf unit n)) (kind .limit-is)
       ∙ at-most-within (kind .digits) (kind .twos) (floatOf unit n) at-most
 
   -- "Taking an answer's floats back gives its whole numbers again."
@@ -78,9 +79,14 @@ whole-at-most unit most (fin s m e) h =
     rw (signed-size s (nearest (m * up e * unit) (down e)))
     (rw (nearest-whole (most * unit) (down e) (down-pos e)) at (nearest-mono (down e) (down-pos e) scaled))
 
-pub whole-within : {unit : ℕ} {limit : Float} {most : ℕ} → Coordinate unit limit most → (x : Float) → within limit x ≡ true → natAbs (wholeOf unit x) ≤ most
+pub whole-within :
+    {unit : ℕ} {limit : Float} {most : ℕ} →
+    Coordinate unit limit most →
+    (x : Float) →
+    withinLimit limit x ≡ true →
+    natAbs (wholeOf unit x) ≤ most
 whole-within {unit} kind x h =
-    let inside = within-at-most (kind .digits) (kind .twos) x (ap (λ (l : Float). within l x) (sym (kind .limit-is)) ∙ h) in
+    let inside = within-at-most (kind .digits) (kind .twos) x (ap (λ (l : Float). withinLimit l x) (sym (kind .limit-is)) ∙ h) in
     subst (λ (m : ℕ). natAbs (wholeOf unit x) ≤ m) (sym (kind .most-is)) (whole-at-most unit (kind .digits * 2 ^ kind .twos) x inside)
 
 -- 0.0 and −0.0
@@ -90,8 +96,8 @@ whole-zero unit s = rw (zero-mul unit, nearest-zero 1 (lit< tt)) (signed-zero s)
 
 -- ---- the tests
 
-pub within-finite : (limit x : Float) → within limit x ≡ true → isFinite x ≡ true
-unfolding within
+pub within-finite : (limit x : Float) → withinLimit limit x ≡ true → isFinite x ≡ true
+unfolding withinLimit
 within-finite limit x h = first (isFinite x) (not (beyond limit x)) h
   where
     first : (a b : Bool) → (a && b) ≡ true → a ≡ true
@@ -99,9 +105,9 @@ within-finite limit x h = first (isFinite x) (not (beyond limit x)) h
     first false b h = h
 
 -- once refusal 2 is ruled out, the test is that of refusal 3
-pub finite-within : (limit x : Float) → isFinite x ≡ true → within limit x ≡ not (beyond limit x)
-unfolding within
+pub finite-within : (limit x : Float) → isFinite x ≡ true → withinLimit limit x ≡ not (beyond limit x)
+unfolding withinLimit
 finite-within limit x h = rw h
 
-pub latitude-is-longitude : (x : Float) → within latitudeLimit x ≡ true → within longitudeLimit x ≡ true
+pub latitude-is-longitude : (x : Float) → withinLimit latitudeLimit x ≡ true → withinLimit longitudeLimit x ≡ true
 latitude-is-longitude x h = within-more 45 1 45 2 x (lit≤ tt) h

@@ -1,8 +1,9 @@
--- Laws of `nearest` on fractions: equal fractions have one nearest whole number, and digits below the half that decides can be dropped.
--- Assumes nothing.
+-- Laws of `nearest` on fractions, from its two bounds, which leave one number. Equal fractions have the same bounds, multiplied through. Where
+-- half the divisor is a multiple of p, so is what the numerator is compared with, and the numerator may be cut to one. Assumes nothing.
 use mathlib.Core.Path.{_≡_, sym, ap, _∙_}
 use Prim.Native.Nat.{ℕ, _+_, _*_, _/_, _%_, _<_, _≤_}
-use native.Mathlib.Nat.{mul-le-mul-right, mul-lt-mul-of-pos-right, le-of-mul-le-mul-right, lt-of-mul-lt-mul-right, mul-add-div-right, div-add-mod', div-mul-le-self, lt-div-mul-add}
+use native.Mathlib.Nat.{mul-le-mul-right, mul-lt-mul-of-pos-right, le-of-mul-le-mul-right, lt-of-mul-lt-mul-right}
+use native.Mathlib.Nat.{mul-add-div-right, div-add-mod', div-mul-le-self, lt-div-mul-add}
 use native.Mathlib.Omega.{arith}
 use Rattle.integers.specs.Near.{nearest}
 use Rattle.integers.proofs.Rounding.{nearest-low, nearest-high, nearest-only}

@@ -6,4 +6,4 @@ pub mod Pattern
 pub mod Product
 pub mod Quotient
 pub mod Coordinates
-pub mod Marked
+pub mod PaperCases

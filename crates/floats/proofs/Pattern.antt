@@ -1,4 +1,5 @@
--- The value of a double from its bit pattern, and the whole number of units that the value is nearest to.
+-- The value of a double from its bit pattern, and the whole number of units that the value is nearest to. A double that fits its format is
+-- read from the sign, the exponent's field and the fraction of its pattern, and equal values have one nearest whole number.
 -- All sizes are counted in 2^−1074, the smallest positive double. Assumes nothing.
 use mathlib.Core.Path.{_≡_, ap, ap₂, _∙_, subst}
 use mathlib.Core.Bool.{Bool, true, false, cond, false≢true}

@@ -1,9 +1,11 @@
--- The steps of `whole_units`: the product of a double's digits with the unit, cut by 24 bits, has the nearest whole number of the exact product.
+-- The steps of `whole_units`: the product of a double's digits with the unit, cut by 24 bits, has the nearest whole number of the exact
+-- product, since half the divisor is a multiple of 2^24, so that the bits cut off do not decide.
 -- `field` and t are the exponent's field and the fraction of the bit pattern. Assumes nothing.
 use mathlib.Core.Path.{_≡_, sym, ap, ap₂, _∙_}
 use Prim.Native.Nat.{ℕ, zero, suc, _+_, _-_, _*_, _/_, _%_, _^_, _≤_, _<_, zero-le}
 use native.Mathlib.Decide.{decLe}
-use native.Mathlib.Nat.{le-trans, lt-of-lt-of-le, not-le-of-lt, mul-le-mul, mul-le-mul-left, mul-le-mul-right, mul-pos, one-mul, pow-succ', le-add-right}
+use native.Mathlib.Nat.{le-trans, lt-of-lt-of-le, not-le-of-lt, le-add-right}
+use native.Mathlib.Nat.{mul-le-mul, mul-le-mul-left, mul-le-mul-right, mul-pos, one-mul, pow-succ'}
 use native.Mathlib.Omega.{arith}
 use lib.Dec.{lit<, lit≤}
 use lib.Pow.{pow-add, pow-pos, pow-mono, shl-lt, shl-exact}

@@ -1,9 +1,11 @@
--- A whole number of units as a double: one rounding of the quotient n/unit. It misses the quotient by less than half a unit,
--- and it does not pass a whole number that the quotient does not pass. Assumes nothing.
+-- A whole number of units as a double: one rounding of the quotient n/unit to 53 binary digits. A size below 2^51 leaves the last digit worth
+-- less than half a unit, so the rounding misses the quotient by less than that. A whole number is a multiple of the last digit, so the
+-- rounding does not pass one that the quotient does not pass. Assumes nothing.
 use mathlib.Core.Path.{_≡_, refl, sym, ap, _∙_, subst}
 use mathlib.Core.Bool.{Bool, true, false, cond, true≢false}
 use Prim.Native.Nat.{ℕ, zero, suc, _+_, _-_, _*_, _/_, _%_, _^_, _≤_, _<_, compare}
-use native.Mathlib.Nat.{le-trans, lt-of-le-of-lt, le-of-lt, lt-trans, zero-lt-suc, div-le-self, div-mul-le-self, lt-div-mul-add, div-one, mod-one, mul-pos, mul-le-mul-left, mul-le-mul-right, le-mul-of-pos-right}
+use native.Mathlib.Nat.{le-trans, lt-of-le-of-lt, le-of-lt, lt-trans, zero-lt-suc, mul-pos, mul-le-mul-left, mul-le-mul-right}
+use native.Mathlib.Nat.{le-mul-of-pos-right, div-le-self, div-mul-le-self, lt-div-mul-add, div-one, mod-one}
 use native.Mathlib.Omega.{arith}
 use lib.Dec.{eqb, eqb·suc-zero, lit≤, lit<}
 use lib.IntN.{ℤ, pos, negsuc, natAbs}

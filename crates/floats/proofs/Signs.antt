@@ -1,4 +1,4 @@
--- A whole number as a sign and a size. Assumes nothing.
+-- A whole number as a sign and a size: the two make the number again, by the two forms of a whole number. Assumes nothing.
 use mathlib.Core.Path.{_≡_, refl}
 use mathlib.Core.Bool.{Bool, true, false}
 use Prim.Native.Nat.{ℕ}

@@ -1,2 +1,2 @@
-pub mod Units
+pub mod Conversion
 pub mod Limits

@@ -15,8 +15,8 @@ unfoldable pub beyond : Float → Float → Bool
 beyond limit x = lt x (neg limit) || lt limit x
 
 -- neither refused: a NaN does not pass
-unfoldable pub within : Float → Float → Bool
-within limit x = isFinite x && not (beyond limit x)
+unfoldable pub withinLimit : Float → Float → Bool
+withinLimit limit x = isFinite x && not (beyond limit x)
 
 -- 90 degrees, 45 · 2
 abbrev pub latitudeLimit : Float

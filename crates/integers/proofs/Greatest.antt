@@ -1,4 +1,6 @@
--- The greatest number from 0 to n that passes a test: what is known of it, and how a search by halves finds it.
+-- The greatest number from 0 to n that passes a test: what is known of it, and how a search by halves finds it. The definition walks down
+-- from n to the first number that passes, so each law is an induction on n. Where a test stays false once it is false, a number that passes
+-- is at most the greatest and one that fails is above it, so either drops a half of the span.
 -- One set of laws over the test serves the root, the angle and the geodetic latitude. Assumes nothing.
 use mathlib.Core.Path.{_≡_, refl, sym, ap, _∙_, subst}
 use mathlib.Core.Bool.{Bool, true, false, cond, not, _&&_}
@@ -106,7 +108,8 @@ module _ (test : ℕ → Bool) where
         at : (b : Bool) → test k ≡ b → b ≡ leb k (greatest test n)
         at true e = sym (le-leb k (greatest test n) (greatest-ge n k h e))
         at false e =
-            sym (not-true (leb k (greatest test n)) (λ t. not-both (falls k (greatest test n) (leb-true k (greatest test n) t) (greatest-le n) (greatest-passes start n)) e))
+            let passes : k ≤ greatest test n → test k ≡ true = λ h. falls k (greatest test n) h (greatest-le n) (greatest-passes start n) in
+            sym (not-true (leb k (greatest test n)) (λ t. not-both (passes (leb-true k (greatest test n) t)) e))
 
     -- the span holds the greatest where its low end passes and its high end is n, or the number after it fails
     pub low-fails : (low high : ℕ) → low ≤ n → test low ≡ false → false ≡ bracketed test n low high
@@ -127,7 +130,13 @@ module _ (test : ℕ → Bool) where
         at false e = sym (le-leb (greatest test n) high (omega (arith, leb-false (high + 1) (greatest test n) e)))
 
     -- a span that holds the greatest is one to search
-    pub bracket : {r : Bool} (low high : ℕ) → low ≤ n → high ≤ n → r ≡ bracketed test n low high → r ≡ true → (test low ≡ true) × (greatest test high ≡ greatest test n)
+    pub bracket :
+        {r : Bool} (low high : ℕ) →
+        low ≤ n →
+        high ≤ n →
+        r ≡ bracketed test n low high →
+        r ≡ true →
+        (test low ≡ true) × (greatest test high ≡ greatest test n)
     unfolding bracketed
     bracket low high l h e t =
         let sides = both (leb low (greatest test n)) (leb (greatest test n) high) (sym e ∙ t) in
@@ -137,7 +146,14 @@ module _ (test : ℕ → Bool) where
         )
 
     -- a span of margin m about e that does not hold the greatest is not the whole span
-    pub margin-below : {r : Bool} (e m low high : ℕ) → e ≤ n → low ≡ e - m → high ≡ n - (n - (e + m)) → r ≡ bracketed test n low high → r ≡ false → m < n
+    pub margin-below :
+        {r : Bool} (e m low high : ℕ) →
+        e ≤ n →
+        low ≡ e - m →
+        high ≡ n - (n - (e + m)) →
+        r ≡ bracketed test n low high →
+        r ≡ false →
+        m < n
     margin-below e m low high h f g told fail = at (le-or-lt n m)
       where
         at : (n ≤ m) ⊎ (m < n) → m < n

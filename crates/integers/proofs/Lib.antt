@@ -2,3 +2,4 @@ pub mod Signs
 pub mod Rounding
 pub mod Greatest
 pub mod Squares
+pub mod Meanings

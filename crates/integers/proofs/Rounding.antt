@@ -1,4 +1,5 @@
--- Laws of near. Each is proved once over n and d: for n ≥ 0 on the natural numbers first, then for every n by the sign.
+-- Laws of near, each proved once over n and d. For n ≥ 0 the quotient q of 2·n + d by 2·d lies between two bounds, 2·q·d ≤ 2·n + d and
+-- 2·n < 2·q·d + d, which leave one number; every law follows from these. A negative n has the opposite of what its size has.
 -- Assumes nothing.
 use mathlib.Core.Path.{_≡_, refl, sym, ap, _∙_, subst}
 use mathlib.Core.Bool.{Bool}
@@ -118,18 +119,23 @@ pub near-whole : (k : ℤ) (d : ℕ) → 0 < d → near (k *ℤ pos d) d ≡ k
 near-whole (pos k) d h = near-pos (k * d) d ∙ ap pos (nearest-whole k d h)
 near-whole (negsuc k) d h = near-neg (suc k * d) d h ∙ ap (λ (q : ℕ). negℤ (pos q)) (nearest-whole (suc k) d h)
 
+-- two numbers are no farther apart than their distances from n/d together; here all of it is multiplied by d
+pub apart : (n q r : ℤ) (d : ℕ) → natAbs (q -ℤ r) * d ≤ natAbs (q *ℤ pos d -ℤ n) + natAbs (r *ℤ pos d -ℤ n)
+apart n q r d =
+    let product : natAbs (q *ℤ pos d -ℤ r *ℤ pos d) ≡ natAbs (q -ℤ r) * d = rw (factored q r (pos d)) (abs-mul (q -ℤ r) (pos d)) in
+    omega (arith, product, abs-via (q *ℤ pos d) n (r *ℤ pos d), abs-sub-sym n (r *ℤ pos d))
+  where
+    factored : (q r d : ℤ) → q *ℤ d -ℤ r *ℤ d ≡ (q -ℤ r) *ℤ d
+    factored q r d = ring (q ∷ r ∷ d ∷ []) (search quote depth 40 fits 20000) tt
+
 -- off the halves it is the only such number
 pub near-only : (n q : ℤ) (d : ℕ) → 2 * natAbs (q *ℤ pos d -ℤ n) < d → near n d ≡ q
 near-only n q d h =
     let r : ℤ = near n d in
     let some : 0 < d = omega arith in
-    let apart : natAbs (r *ℤ pos d -ℤ q *ℤ pos d) < d = omega (arith, abs-via (r *ℤ pos d) n (q *ℤ pos d), abs-sub-sym n (q *ℤ pos d), near-close n d some) in
-    let product : natAbs (r -ℤ q) * d < d = rw (factored r q (pos d), abs-mul (r -ℤ q) (pos d)) at apart in
+    let product : natAbs (r -ℤ q) * d < d = omega (arith, apart n r q d, near-close n d some) in
     diff-zero r q (no-size (r -ℤ q) (below-one (natAbs (r -ℤ q)) d product))
   where
-    factored : (r q d : ℤ) → r *ℤ d -ℤ q *ℤ d ≡ (r -ℤ q) *ℤ d
-    factored r q d = ring (r ∷ q ∷ d ∷ []) (search quote depth 40 fits 20000) tt
-
     below-one : (a d : ℕ) → a * d < d → a ≡ 0
     below-one zero d h = refl
     below-one (suc a) d h = let e : ⊥ = omega arith in absurd e

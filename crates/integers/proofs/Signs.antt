@@ -1,5 +1,5 @@
--- A signed number, its sign and its size, as the code reads them: a local i64 holds bits, and `toZ w64 (ofZ w64 z)` is what is read back of z.
--- Assumes nothing.
+-- A signed number, its sign and its size, as the code reads them. A local i64 holds bits, and `toZ w64 (ofZ w64 z)` is what is read back of z:
+-- z itself, where z is from −2^63 to below 2^63. Each step of `magnitude` and `signed` stays there. Assumes nothing.
 use mathlib.Core.Path.{_≡_, refl, sym, ap, _∙_, subst}
 use mathlib.Core.Bool.{Bool, true, false}
 use Prim.Native.Nat.{ℕ, zero, suc, _+_, _<_, _≤_, _^_}

@@ -1,4 +1,5 @@
--- Laws of root, and of Newton's iteration towards it: a step from above the root gives a smaller number that is not below it.
+-- Laws of root, from those of the greatest number that passes a test, and of Newton's iteration towards it: a step from r gives the mean of
+-- r and n/r, which is not below their geometric mean, the root; where r is above the root, n/r is below r, and so is the mean.
 -- Assumes nothing.
 use mathlib.Core.Path.{_≡_, subst}
 use mathlib.Core.Logic.{_⊎_, inl, inr}
@@ -30,22 +31,18 @@ pub root-low : (n : ℕ) → root n * root n ≤ n
 unfolding root
 root-low n = leb-true (root n * root n) n (greatest-passes (λ k. leb (k * k) n) (le-leb 0 n zero-le) n)
 
-not-above : (n r : ℕ) → (r + 1) * (r + 1) ≤ n → r + 1 ≤ r → ⊥
-not-above n r h l = omega arith
-
-pub root-high : (n : ℕ) → n < (root n + 1) * (root n + 1)
+-- a number whose square is at most n is at most the root
+pub root-least : (n a : ℕ) → a * a ≤ n → a ≤ root n
 unfolding root
+root-least n a h = greatest-ge (λ k. leb (k * k) n) n a (le-trans (self-le-square a) h) (le-leb (a * a) n h)
+
+-- so the next square is above n
+pub root-high : (n : ℕ) → n < (root n + 1) * (root n + 1)
 root-high n = at (le-or-lt ((root n + 1) * (root n + 1)) n)
   where
     at : ((root n + 1) * (root n + 1) ≤ n) ⊎ (n < (root n + 1) * (root n + 1)) → n < (root n + 1) * (root n + 1)
-    at (inl h) = absurd (not-above n (root n) h (greatest-ge (λ k. leb (k * k) n) n (root n + 1) (le-trans (self-le-square (root n + 1)) h) (le-leb ((root n + 1) * (root n + 1)) n h)))
+    at (inl h) = let e : ⊥ = omega (arith, root-least n (root n + 1) h) in absurd e
     at (inr h) = h
-
--- a number whose square is at most n, and one whose successor's is above it
-pub root-least : (n a : ℕ) → a * a ≤ n → a ≤ root n
-root-least n a h =
-    let l : a < root n + 1 = square-lt a (root n + 1) (lt-of-le-of-lt h (root-high n)) in
-    omega arith
 
 pub root-most : (n a : ℕ) → n < (a + 1) * (a + 1) → root n ≤ a
 root-most n a h =

@@ -35,6 +35,10 @@ pub abs-via : (x y z : ℤ) → natAbs (x -ℤ z) ≤ natAbs (x -ℤ y) + natAbs
 abs-via x y z =
     simp natAbs-parts (omega (arith, parts-- x y, parts-- y z, parts-- x z, one-part (x -ℤ z)))
 
+-- a number from another and their difference
+pub abs-from : (x y : ℤ) → natAbs x ≤ natAbs (x -ℤ y) + natAbs y
+abs-from x y = simp natAbs-parts (omega (arith, parts-- x y, one-part x))
+
 -- ---- products
 
 pub abs-mul : (x y : ℤ) → natAbs (x *ℤ y) ≡ natAbs x * natAbs y

@@ -1,4 +1,5 @@
--- `is_side` meets its contract: the code compares bits, and every other bit pattern is another side. Assumes nothing.
+-- `is_side` meets its contract: the code compares the side's bits with those of the three, and a side with other bits is another number.
+-- Assumes nothing.
 use mathlib.Core.Path.{refl, sym}
 use mathlib.Core.Logic.{inl, inr, ⊎-elim}
 use Rattle.units.specs.Spans.{within, same}
@@ -18,7 +19,11 @@ unfolding accepted-side
 returns-2 c =
     let side = c .before .args .side in
     let none = c .match .rest .1 in
-    rw (other-bits side (λ e. none (inl e)), other-bits side (λ e. none (inr (inl e))), other-bits side (λ e. none (inr (inr e))))
+    rw (
+      other-bits side (λ e. none (inl e)),
+      other-bits side (λ e. none (inr (inl e))),
+      other-bits side (λ e. none (inr (inr e))),
+    )
 
 pub is-side-spec : {M : Type 1} → statement M
 is-side-spec = tie.close (tie.spec returns returns-2)

@@ -1,4 +1,4 @@
--- `floats::degrees_to_mas` meets its contract: what is within 180 is within 50,000,000. Assumes nothing.
+-- `degrees_to_mas` meets its contract: what is within 180 is within 50,000,000, as `whole_units` asks. Assumes nothing.
 use borrow.Author.Needs.{needs}
 use lib.Dec.{lit≤}
 use Rattle.floats.proofs.Bounds.{within-more}

@@ -1,4 +1,5 @@
--- `floats::is_finite` meets its contract: a double is finite exactly if it lies between the infinities. Assumes nothing.
+-- `is_finite` meets its contract: a double is finite exactly if it lies between the infinities, and a NaN compares with neither.
+-- Assumes nothing.
 use lib.Ieee.{ofBits, neg, div}
 use Rattle.floats.proofs.Bounds.{above-low, not-above-low}
 use Rattle.floats.proofs.is_finite.Statement.{statement}

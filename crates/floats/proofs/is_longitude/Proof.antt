@@ -1,4 +1,4 @@
--- `floats::is_longitude` meets its contract: the limit's bit pattern is the number of `specs/`. Assumes nothing.
+-- `is_longitude` meets its contract: the limit's bit pattern is that of the limit in `specs/`, by computation. Assumes nothing.
 use borrow.Author.Needs.{needs}
 use lib.Ieee.{ofBits}
 use Rattle.floats.proofs.is_longitude.Statement.{statement}

@@ -1,4 +1,5 @@
--- `floats::is_within` meets its contract. Assumes nothing.
+-- `is_within` meets its contract: the two comparisons rule out what is beyond the limit. A NaN passes both, and `is_finite` stops it.
+-- Assumes nothing.
 use borrow.Author.Needs.{needs}
 use mathlib.Core.Path.{_∙_}
 use Rattle.floats.proofs.Bounds.{low-fails, high-fails, neither-fails}

@@ -1,4 +1,5 @@
--- `floats::whole_units` meets its contract. The double's value is read from its bit pattern; the limit keeps the exponent's field at 1050 or below.
+-- `whole_units` meets its contract. The double's value is read from its bit pattern, and the product with the last 24 bits cut off has the
+-- nearest whole number of the exact product. The limit keeps the exponent's field at 1050 or below, so nothing passes 64 bits.
 -- Assumes nothing.
 use borrow.Author.Needs.{needs}
 use mathlib.Core.Path.{_≡_, sym, ap, _∙_, subst}

@@ -1,5 +1,4 @@
--- `integers::magnitude` meets its contract. A negative n is −(a + 1); the code works out a, which fits an i64, and adds 1 as a u64.
--- Assumes nothing.
+-- `magnitude` meets its contract: a negative n is −(a + 1); the code works out a, which fits an i64, and adds 1 as a u64. Assumes nothing.
 use mathlib.Core.Path.{ap}
 use native.Mathlib.Omega.{arith}
 use lib.IntN.{natAbs}

@@ -1,13 +1,13 @@
--- `integers::near` meets its contract. Assumes nothing.
+-- `near` meets its contract: the code rounds the size and puts the sign back, as the definition does. The rounded size is at most that of n
+-- and half of d together, so it is below 2^63. Assumes nothing.
 use borrow.Author.Needs.{needs}
-use mathlib.Core.Path.{_≡_, ap, _∙_}
+use mathlib.Core.Path.{_≡_, ap, ap₂, _∙_}
 use Prim.Native.Nat.{ℕ}
 use native.Mathlib.Omega.{arith}
 use lib.IntN.{ℤ, pos, natAbs}
 use lib.Signed.{ltZ}
-use mir.Syntax.{w64}
-use mir.Val.{toZ, ofZ}
 use mir.Facts.{toZ-ofZ}
+use Rattle.proof_kit.proofs.Range.{returned}
 use Rattle.integers.specs.Near.{near, nearest, signed}
 use Rattle.integers.proofs.Rounding.{nearest-le}
 use Rattle.integers.proofs.near.Statement.{statement}
@@ -32,10 +32,10 @@ returns : tie.Need-returns
 unfolding near
 returns c =
     let start = c .before .before .before in
-    toZ-ofZ {w = w64} (record { sfits = c .signed .ok })
+    let rounded = c .before .nearest .ensures ∙ ap (λ (k : ℕ). nearest k (start .args .d)) (size (c .before .before)) in
+    returned (c .signed .ok)
     ∙ c .signed .ensures
-    ∙ ap (signed (ltZ (toZ w64 (ofZ w64 (start .args .n))) (pos 0))) (c .before .nearest .ensures ∙ ap (λ (k : ℕ). nearest k (start .args .d)) (size (c .before .before)))
-    ∙ ap (λ (z : ℤ). signed (ltZ z (pos 0)) (nearest (natAbs (start .args .n)) (start .args .d))) (toZ-ofZ (start .fits .n))
+    ∙ ap₂ (λ (z : ℤ) (k : ℕ). signed (ltZ z (pos 0)) k) (toZ-ofZ (start .fits .n)) rounded
 
 pub near-spec : {M : Type 1} → statement M
 near-spec = tie.close (tie.spec magnitude-requires nearest-requires signed-requires returns)

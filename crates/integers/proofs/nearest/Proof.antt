@@ -1,4 +1,5 @@
--- `integers::nearest` meets its contract. Assumes nothing.
+-- `nearest` meets its contract: half the divisor, rounded down, is added before the division. The half that is lost for an odd divisor
+-- changes no quotient, since no fraction over an odd divisor is a half. Assumes nothing.
 use borrow.Author.Needs.{needs}
 use Rattle.integers.proofs.Rounding.{nearest-halved}
 use Rattle.integers.proofs.nearest.Statement.{statement}

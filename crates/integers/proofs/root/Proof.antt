@@ -1,5 +1,6 @@
--- `integers::root` meets its contract. The loop's invariant: n is below the square of r + 1, which with the test that fails at the exit is the contract,
--- and r is below 2^32, which keeps its square within 64 bits. The measure is r. Assumes nothing.
+-- `root` meets its contract. The loop's invariant: n is below the square of r + 1, which with the test that fails at the exit is the
+-- contract, and r is below 2^32, which keeps its square within 64 bits. The measure is r, since a step from above the root falls.
+-- Assumes nothing.
 use mathlib.Core.Path.{_≡_, sym, _∙_, subst}
 use Prim.Native.Nat.{ℕ, _+_, _-_, _*_, _/_, _%_, _^_, _≤_, _<_}
 use native.Mathlib.Nat.{le-trans, le-of-lt, lt-of-lt-of-le, lt-of-le-of-lt}
@@ -87,11 +88,17 @@ div-r c = guess-some (c .args .n) (c .fits .n .fits)
 
 add-r : tie.Need-add-r Inv-loop μ-loop
 unfolding guess
-add-r c = let n = c .args .n in let h = c .fits .n .fits in record { fits = step-fits n (guess n h) (guess-above n h) (guess-small n h) }
+add-r c =
+    let n = c .args .n in
+    let h = c .fits .n .fits in
+    record { fits = step-fits n (guess n h) (guess-above n h) (guess-small n h) }
 
 loop-holds : tie.Need-loop-holds Inv-loop μ-loop
 unfolding guess
-loop-holds c = let n = c .args .n in let h = c .fits .n .fits in step-above n (guess n h) (guess-above n h) (guess-small n h)
+loop-holds c =
+    let n = c .args .n in
+    let h = c .fits .n .fits in
+    step-above n (guess n h) (guess-above n h) (guess-small n h)
 
 mul-loop : tie.Need-mul-loop Inv-loop μ-loop
 mul-loop c = record { fits = square-fits (c .loop .r) (c .loop .inv .1) }

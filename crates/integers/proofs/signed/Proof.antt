@@ -1,4 +1,4 @@
--- `integers::signed` meets its contract. Assumes nothing.
+-- `signed` meets its contract: a size below 2^63 is the same number as an i64, and its opposite is above −2^63. Assumes nothing.
 use borrow.Author.Needs.{needs}
 use mir.Syntax.{w64}
 use mir.Facts.{toZ-pos}

@@ -1,6 +1,6 @@
--- Document 01, "Points on both sides", on degrees and metres, each by computation; with doubles on which a wrong way gives another
--- answer, and the limits where they turn.
--- A double is written m · 2^e with a sign; `negsuc 7` is the exponent −8.
+-- The cases on degrees and metres that document 01, "Points on both sides", marks P, each by computation; with doubles on which a wrong
+-- way gives another answer, and the limits where they turn. A double is written m · 2^e with a sign; `negsuc 7` is the exponent −8.
+-- Assumes nothing.
 use mathlib.Core.Path.{_≡_, refl}
 use mathlib.Core.Bool.{true, false}
 use Prim.Native.Nat.{_+_, _*_, _^_}
@@ -9,7 +9,7 @@ use lib.Ieee.{nan, fin, binary64, lt, neg, div, ofInt}
 use Rattle.integers.specs.Near.{nearest}
 use Rattle.units.specs.Units.{degree, metre}
 use Rattle.floats.specs.Conversion.{wholeOf, floatOf}
-use Rattle.floats.specs.Limits.{isFinite, beyond, within, latitudeLimit, longitudeLimit, planeLimit}
+use Rattle.floats.specs.Limits.{isFinite, beyond, withinLimit, latitudeLimit, longitudeLimit, planeLimit}
 
 pub degree-256th : wholeOf degree (fin false 1 (negsuc 7)) ≡ pos 14_063
 unfolding wholeOf nearest
@@ -47,14 +47,14 @@ unfolding ofInt
 plane-limit = refl
 
 -- 90 passes and the next double, 90 + 2^−46, does not; nor does NaN
-ninety : within latitudeLimit latitudeLimit ≡ true
-unfolding within isFinite beyond lt neg
+ninety : withinLimit latitudeLimit latitudeLimit ≡ true
+unfolding withinLimit isFinite beyond lt neg
 ninety = refl
 
-past-ninety : within latitudeLimit (fin false (90 * 2 ^ 46 + 1) (negsuc 45)) ≡ false
-unfolding within isFinite beyond lt neg
+past-ninety : withinLimit latitudeLimit (fin false (90 * 2 ^ 46 + 1) (negsuc 45)) ≡ false
+unfolding withinLimit isFinite beyond lt neg
 past-ninety = refl
 
-not-a-number : within latitudeLimit nan ≡ false
-unfolding within isFinite
+not-a-number : withinLimit latitudeLimit nan ≡ false
+unfolding withinLimit isFinite
 not-a-number = refl

@@ -1,22 +1,21 @@
--- Laws of the cell number, for every side above 0 and every coordinate. The fraction is dropped: the cell number times the side is not farther from 0 than the coordinate, and what is left is below the side.
--- These two leave one number, so every coordinate lies in one cell, and an answer's two numbers are those of the cell that its position lies in. Assumes nothing.
-use mathlib.Core.Path.{_≡_, refl, sym, ap, _∙_, subst}
-use mathlib.Core.Bool.{Bool, true, false, cond}
+-- Laws of the cell number, for every side above 0 and every coordinate. Dropping the fraction takes the number times the side no farther
+-- from 0 than the coordinate, and leaves less than a side. These two leave one number: the size of one with both is the whole quotient of
+-- the sizes, and on the other side of 0 the sizes would add, so that a side or more would be left. So a coordinate lies in one cell.
+-- Assumes nothing.
+use mathlib.Core.Path.{_≡_, refl, sym, ap, _∙_}
+use mathlib.Core.Bool.{Bool}
 use mathlib.Core.List.{[], _∷_}
-use Prim.Native.Nat.{ℕ, zero, suc, _+_, _*_, _/_, _<_, _≤_}
+use Prim.Native.Nat.{ℕ, zero, suc, _*_, _/_, _<_, _≤_}
 use native.Mathlib.Nat.{div-eq-of-lt-le, div-mul-le-self, lt-div-mul-add}
 use native.Mathlib.Omega.{arith}
 use lib.Dec.{leb·suc-zero}
 use lib.IntN.{ℤ, pos, negsuc, negℤ, natAbs, _-ℤ_, _*ℤ_}
 use Rattle.proof_kit.proofs.Laws.{natAbs-parts, parts--, one-part, P-*, N-*}
 use Rattle.proof_kit.proofs.Ring.{ring, quote}
-use Rattle.proof_kit.proofs.Size.{abs-neg, abs-mul}
+use Rattle.proof_kit.proofs.Size.{abs-neg, abs-from, abs-mul}
 use Rattle.integers.specs.Near.{signed}
-use Rattle.units.specs.Spans.{on-plane}
-use Rattle.cells.specs.declared.CellAnswer.{CellAnswer}
-use Rattle.cells.specs.declared.CellAnswer.the-variants.{Cell, Refused}
-use Rattle.cells.specs.Cells.{accepted-side, cellNumber, InCell, cellOf, cell-told}
-use Rattle.cells.proofs.Sides.{side-above-1}
+use Rattle.cells.specs.Cells.{cellNumber, InCell}
+use Rattle.cells.specs.Theorems.{OneCell}
 
 -- ---- by the sign of the coordinate
 
@@ -54,7 +53,8 @@ pub cell-remainder : (side : ℕ) → 0 < side → (z : ℤ) → natAbs (z -ℤ 
 cell-remainder side h (pos n) = rw (cell-pos side n) (size-left n side h)
 cell-remainder side h (negsuc n) =
     let q : ℕ = suc n / side in
-    rw (cell-negsuc side n, turned (pos q) (pos side) (pos (suc n)), abs-neg (pos (suc n) -ℤ pos (q * side))) (size-left (suc n) side h)
+    rw (cell-negsuc side n, turned (pos q) (pos side) (pos (suc n)), abs-neg (pos (suc n) -ℤ pos (q * side)))
+    (size-left (suc n) side h)
 
 -- ---- and in no other
 
@@ -62,9 +62,8 @@ cell-remainder side h (negsuc n) =
 only-size : (side : ℕ) (k z : ℤ) → InCell side k z → natAbs z / side ≡ natAbs k
 only-size side k z i =
     let edge : ℤ = k *ℤ pos side in
-    let parts : natAbs z ≤ natAbs edge + natAbs (z -ℤ edge) = omega (arith, natAbs-parts z, natAbs-parts edge, natAbs-parts (z -ℤ edge), parts-- z edge, one-part z) in
     let size : natAbs edge ≡ natAbs k * side = abs-mul k (pos side) in
-    div-eq-of-lt-le side (omega (arith, size, i .reached)) (omega (arith, size, parts, i .remainder))
+    div-eq-of-lt-le side (omega (arith, size, i .reached)) (omega (arith, size, abs-from z edge, i .remainder))
 
 -- where the signs differ, the sizes add, and at least a side is left
 across : (side n m : ℕ) → natAbs (pos n -ℤ negsuc m *ℤ pos side) < side → ⊥
@@ -84,27 +83,9 @@ cell-only side (pos (suc m)) (negsuc n) i =
 cell-only side (negsuc m) (negsuc n) i =
     sym (cell-negsuc side n ∙ ap (λ (q : ℕ). negℤ (pos q)) (only-size side (negsuc m) (negsuc n) i))
 
--- Every coordinate lies in one cell.
-pub one-cell : (side : ℕ) → 0 < side → (z : ℤ) → InCell side (cellNumber side z) z × ((k : ℤ) → InCell side k z → k ≡ cellNumber side z)
-one-cell side h z = (
-  record { reached = cell-reached side z; remainder = cell-remainder side h z },
-  λ k i. cell-only side k z i,
-)
+-- What it lies in is a cell, and the only one.
+pub in-cell : (side : ℕ) → 0 < side → (z : ℤ) → InCell side (cellNumber side z) z
+in-cell side h z = record { reached = cell-reached side z; remainder = cell-remainder side h z }
 
--- ---- the answer
-
--- numbers are answered only where both tests hold, and are the ones given
-answered : (t u : Bool) {x y e n : ℤ} → cond t (cond u (Cell x y) (Refused 3)) (Refused 3) ≡ Cell e n → (t ≡ true) × (x ≡ e) × (y ≡ n)
-answered true true a = (refl, ap (λ (r : CellAnswer). cell-told r .first) a, ap (λ (r : CellAnswer). cell-told r .second) a)
-answered true false a = absurd (omega (arith, ap (λ (r : CellAnswer). cell-told r .refusal) a))
-answered false u a = absurd (omega (arith, ap (λ (r : CellAnswer). cell-told r .refusal) a))
-
--- Where cell numbers are answered, the position lies in that cell.
-pub answer-in-cell : (side E N e n : ℤ) → cellOf side E N ≡ Cell e n → InCell (natAbs side) e E × InCell (natAbs side) n N
-unfolding cellOf
-answer-in-cell side E N e n a =
-    let t = answered (accepted-side side) (on-plane E N) a in
-    let some : 0 < natAbs side = omega (arith, side-above-1 side (t .0)) in (
-      subst (λ (k : ℤ). InCell (natAbs side) k E) (t .1) (one-cell (natAbs side) some E .0),
-      subst (λ (k : ℤ). InCell (natAbs side) k N) (t .2) (one-cell (natAbs side) some N .0),
-    )
+pub one-cell : OneCell
+one-cell side h z = (cellNumber side z, in-cell side h z, λ k i. cell-only side k z i)

@@ -1,0 +1,79 @@
+-- The answer by the two tests that decide it, what it tells, and what it says of cells. The chain of tests gives 3 or 0, so a refusal is 3 and
+-- numbers are answered only where both tests pass; the numbers are the cell numbers, and those are the only cell. Assumes nothing.
+use mathlib.Core.Path.{_≡_, refl, sym, ap₂, _∙_, subst}
+use mathlib.Core.Bool.{Bool, true, false}
+use Prim.Native.Nat.{ℕ, zero, suc, _<_}
+use native.Mathlib.Omega.{arith}
+use lib.IntN.{ℤ, natAbs}
+use Rattle.units.specs.Spans.{on-plane}
+use Rattle.units.specs.Refusals.{out-of-limits, unless}
+use Rattle.units.specs.Answers.{told}
+use Rattle.cells.specs.declared.CellAnswer.{CellAnswer}
+use Rattle.cells.specs.declared.CellAnswer.the-variants.{Cell, Refused}
+use Rattle.cells.specs.Cells.{InCell, accepted-side, cellNumber, cellRefusal, cellAnswer, cell-told, cellOf, cellTold}
+use Rattle.cells.specs.Theorems.{AnswerHolds, CellAnswered, CellNumbers}
+use Rattle.cells.proofs.Sides.{side-above-1}
+use Rattle.cells.proofs.NumberLaws.{in-cell, cell-only}
+
+tells : (n : ℕ) (east north : ℤ) → cell-told (cellAnswer n east north) ≡ told n east north
+tells zero east north = refl
+tells (suc n) east north = refl
+
+module _ (side E N : ℤ) where
+  pub cell-tells : cell-told (cellOf side E N) ≡ cellTold side E N
+  unfolding cellOf cellTold
+  cell-tells = tells (cellRefusal side E N) (cellNumber (natAbs side) E) (cellNumber (natAbs side) N)
+
+  -- ---- by the tests
+
+  pub side-refused : accepted-side side ≡ false → cellOf side E N ≡ Refused out-of-limits
+  unfolding cellOf cellRefusal
+  side-refused s = rw s
+
+  pub position-refused : accepted-side side ≡ true → on-plane E N ≡ false → cellOf side E N ≡ Refused out-of-limits
+  unfolding cellOf cellRefusal
+  position-refused s p = rw (s, p)
+
+  pub cell-accepted :
+      accepted-side side ≡ true →
+      on-plane E N ≡ true →
+      cellOf side E N ≡ Cell (cellNumber (natAbs side) E) (cellNumber (natAbs side) N)
+  unfolding cellOf cellRefusal
+  cell-accepted s p = rw (s, p)
+
+-- ---- back from the answer to the tests
+
+module _ (x y : ℤ) where
+  -- the answer with the numbers x and y, by the results of the two tests
+  abbrev by-tests : Bool → Bool → CellAnswer
+  by-tests s p = cellAnswer (unless s out-of-limits (unless p out-of-limits 0)) x y
+
+  numbers-given : (s p : Bool) {east north : ℤ} → by-tests s p ≡ Cell east north → (s ≡ true) × (x ≡ east) × (y ≡ north)
+  numbers-given true true a = (refl, (cc), (cc))
+  numbers-given true false a = let z : _≡_ {A = ℕ} 0 1 = cc in absurd (omega arith)
+  numbers-given false p a = let z : _≡_ {A = ℕ} 0 1 = cc in absurd (omega arith)
+
+  number-refused : (s p : Bool) {n : ℕ} → by-tests s p ≡ Refused n → n ≡ out-of-limits
+  number-refused true true a = let z : _≡_ {A = ℕ} 0 1 = cc in absurd (omega arith)
+  number-refused true false a = cc
+  number-refused false p a = cc
+
+pub cell-numbers : CellNumbers
+unfolding cellOf cellRefusal
+cell-numbers side E N n a =
+    number-refused (cellNumber (natAbs side) E) (cellNumber (natAbs side) N) (accepted-side side) (on-plane E N) a
+
+-- ---- the cell
+
+pub answer-holds : AnswerHolds
+unfolding cellOf cellRefusal
+answer-holds side E N east north a =
+    let given = numbers-given (cellNumber (natAbs side) E) (cellNumber (natAbs side) N) (accepted-side side) (on-plane E N) a in
+    let some : 0 < natAbs side = omega (arith, side-above-1 side (given .0)) in (
+      subst (λ (k : ℤ). InCell (natAbs side) k E) (given .1) (in-cell (natAbs side) some E),
+      subst (λ (k : ℤ). InCell (natAbs side) k N) (given .2) (in-cell (natAbs side) some N),
+    )
+
+pub cell-answered : CellAnswered
+cell-answered side E N east north s p i j =
+    cell-accepted side E N s p ∙ sym (ap₂ Cell (cell-only (natAbs side) east E i) (cell-only (natAbs side) north N j))
