@@ -10,7 +10,7 @@ use mir.Val.{SFits, toZ, ofZ}
 use mir.Facts.{toZ-ofZ}
 use Rattle.parameters.specs.declared.Parameters.{Parameters}
 use Rattle.units.specs.Answers.{Told}
-use Rattle.points.specs.declared.pairs.Marked.{Marked}
+use Rattle.points.specs.declared.pairs.Row.{Row}
 use Rattle.laea_c.specs.Calls.{setOf, Answered, AnswersFloats, AnswersWhole}
 
 -- an i64, read back
@@ -31,7 +31,7 @@ module _ {A : Type 0} {first second : A} {out : List A} where
   refused-answer zero some = absurd (some refl)
   refused-answer (suc n) some = record { result-is = refl; out-is = refl }
 
-pub floats-told : {m m′ : Marked} {out out′ : List Float} {r : ℕ} → m ≡ m′ → AnswersFloats m out out′ r → AnswersFloats m′ out out′ r
+pub floats-told : {m m′ : Row} {out out′ : List Float} {r : ℕ} → m ≡ m′ → AnswersFloats m out out′ r → AnswersFloats m′ out out′ r
 floats-told e a = rw (sym e) a
 
 pub whole-told : {n : ℕ} {x y x′ y′ : ℤ} {t : Told} {out out′ : List ℤ} {r : ℕ} → x ≡ x′ → y ≡ y′ → record { refusal = n; first = x′; second = y′ } ≡ t → Answered n x y out out′ r → AnswersWhole t out out′ r

@@ -12,11 +12,11 @@ use lib.ListN.{length}
 use Rattle.parameters.specs.declared.Parameters.{Parameters}
 use Rattle.units.specs.Refusals.{unless, firstOf}
 use Rattle.parameters.specs.ParameterSet.{setRefusal}
-use Rattle.points.specs.declared.pairs.Marked.{Marked}
-use Rattle.points.specs.declared.lists.ListAnswer.{ListAnswer}
-use Rattle.points.specs.Lists.{rows, marks, lengthRefusal, listRefusal, zeros, written, Counted, list-told, counted, ListCall}
-use Rattle.points.proofs.ListLaws.{column-length, zeros-most}
-use Rattle.points.proofs.ListedLaws.{equal-lengths}
+use Rattle.points.specs.declared.pairs.Row.{Row}
+use Rattle.point_lists.specs.declared.ListAnswer.{ListAnswer}
+use Rattle.point_lists.specs.Lists.{rows, marks, lengthRefusal, listRefusal, zeros, written, Counted, list-told, counted, ListCall}
+use Rattle.point_lists.proofs.ListLaws.{column-length, zeros-most}
+use Rattle.point_lists.proofs.ListedLaws.{equal-lengths}
 use Rattle.laea_c.specs.Calls.{returned, ReturnsList}
 
 no-first : (n m : ℕ) → firstOf n m ≡ 0 → n ≡ 0
@@ -37,7 +37,7 @@ count-of : (refusal n : ℕ) → (refusal ≡ 0 → n ≤ 4096) → counted refu
 count-of zero n most = most refl
 count-of (suc m) n most = omega arith
 
-module _ (q : Parameters) (row : Parameters → Float → Float → Marked) (xs ys first second : List Float) (mark : List ℕ) {first′ second′ : List Float} {mark′ : List ℕ} {answer : ListAnswer} (call : ListCall q (row q) xs ys first first′ second second′ mark mark′ answer) where
+module _ (q : Parameters) (row : Parameters → Float → Float → Row) (xs ys first second : List Float) (mark : List ℕ) {first′ second′ : List Float} {mark′ : List ℕ} {answer : ListAnswer} (call : ListCall q (row q) xs ys first first′ second second′ mark mark′ answer) where
   lengths-accepted : listRefusal q xs ys first second mark ≡ 0 → lengthRefusal (length xs) (length ys) (length first) (length second) (length mark) ≡ 0
   unfolding listRefusal
   lengths-accepted none = no-first _ (setRefusal q) none
@@ -47,7 +47,7 @@ module _ (q : Parameters) (row : Parameters → Float → Float → Marked) (xs 
   zeros-few none =
       let points = rows (row q) xs ys in
       let written-marks : mark′ ≡ marks points = call .marks-are ∙ ap (λ (n : ℕ). written n (marks points) mark) none in
-      let as-many : length mark′ ≡ length xs = ap length written-marks ∙ column-length (λ (r : Marked). r .mark) (row q) xs ys (equal-lengths _ _ _ _ _ (lengths-accepted none) .0) in
+      let as-many : length mark′ ≡ length xs = ap length written-marks ∙ column-length (λ (r : Row). r .mark) (row q) xs ys (equal-lengths _ _ _ _ _ (lengths-accepted none) .0) in
       let few : length xs ≤ 4096 = not-longer _ _ _ _ _ (lengths-accepted none) in
       omega (arith, as-many, few, zeros-most mark′)
 

@@ -7,10 +7,10 @@ use lib.IntN.{ℤ, pos, negℤ}
 use lib.Ieee.{Float}
 use Rattle.parameters.specs.declared.Parameters.{Parameters}
 use Rattle.units.specs.Answers.{Told}
-use Rattle.points.specs.declared.pairs.Marked.{Marked}
-use Rattle.points.specs.declared.lists.ListAnswer.{ListAnswer}
-use Rattle.points.specs.declared.lists.ListAnswer.the-variants.{Count, Refused}
-use Rattle.points.specs.Lists.{written, zeros, listRefusal, listAnswer, ListCall}
+use Rattle.points.specs.declared.pairs.Row.{Row}
+use Rattle.point_lists.specs.declared.ListAnswer.{ListAnswer}
+use Rattle.point_lists.specs.declared.ListAnswer.the-variants.{Count, Refused}
+use Rattle.point_lists.specs.Lists.{written, zeros, listRefusal, listAnswer, ListCall}
 
 -- the parameter set of its fields, in the order of document 01's table
 abbrev pub setOf : (a e2 lat0 lon0 easting northing : ℤ) → Parameters
@@ -30,7 +30,7 @@ pub record Answered {A : Type 0} (refusal : ℕ) (first second : A) (out out′ 
   pub out-is : out′ ≡ written refusal (first ∷ second ∷ []) out
 
 -- an answer in degrees or metres
-abbrev pub AnswersFloats : Marked → (out out′ : List Float) → ℕ → Type 0
+abbrev pub AnswersFloats : Row → (out out′ : List Float) → ℕ → Type 0
 AnswersFloats answer = Answered (answer .mark) (answer .first) (answer .second)
 
 -- an answer in whole numbers
@@ -45,7 +45,7 @@ returned (Refused number) = negℤ (pos number)
 -- A list call that works out each point by `row` with its set: the lists are as the library leaves them, and the result is its answer as one number.
 abbrev pub ReturnsList :
     Parameters →
-    (Parameters → Float → Float → Marked) →
+    (Parameters → Float → Float → Row) →
     (xs ys first first′ second second′ : List Float) (mark mark′ : List ℕ) → ℤ → Type 0
 ReturnsList p row xs ys first first′ second second′ mark mark′ r =
     let answer = listAnswer (listRefusal p xs ys first second mark) (zeros mark′) in

@@ -6,8 +6,7 @@ use points::pairs::PlanePair;
 use points::pairs::PlanePairAnswer;
 use points::single::forward_degrees;
 use points::single::inverse_metres;
-ghost use Rattle.points.specs.Told.{forwardMarked, inverseMarked};
-ghost use Rattle.points.specs.Lists.{degrees, metres};
+ghost use Rattle.points.specs.Pairs.{forwardRow, inverseRow, degrees, metres};
 ghost use Rattle.laea_c.specs.Calls.{setOf, Answered, AnswersFloats};
 
 // Writes the two values where the refusal number is 0, and only there. Returns the number.
@@ -33,7 +32,7 @@ pub extern "C" fn laea_forward(
     longitude: f64,
     out: &mut [f64; 2],
 ) -> u8
-    ensures { λ r. ⌜ AnswersFloats (forwardMarked (setOf a e2 lat0 lon0 «false_easting» «false_northing») (degrees latitude longitude)) (now (out .entry)) (now (out .exit)) r ⌝ }
+    ensures { λ r. ⌜ AnswersFloats (forwardRow (setOf a e2 lat0 lon0 «false_easting» «false_northing») (degrees latitude longitude)) (now (out .entry)) (now (out .exit)) r ⌝ }
 {
     let p = set(a, e2, lat0, lon0, false_easting, false_northing);
     let answer = forward_degrees(
@@ -62,7 +61,7 @@ pub extern "C" fn laea_inverse(
     northing: f64,
     out: &mut [f64; 2],
 ) -> u8
-    ensures { λ r. ⌜ AnswersFloats (inverseMarked (setOf a e2 lat0 lon0 «false_easting» «false_northing») (metres easting northing)) (now (out .entry)) (now (out .exit)) r ⌝ }
+    ensures { λ r. ⌜ AnswersFloats (inverseRow (setOf a e2 lat0 lon0 «false_easting» «false_northing») (metres easting northing)) (now (out .entry)) (now (out .exit)) r ⌝ }
 {
     let p = set(a, e2, lat0, lon0, false_easting, false_northing);
     let at = PlanePair {

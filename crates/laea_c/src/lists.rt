@@ -1,12 +1,13 @@
 // Lists of points, in degrees and metres.
 use crate::parameters::set;
 use integers::signed;
-use points::lists::ListAnswer;
-use points::lists::forward_list;
-use points::lists::inverse_list;
+use point_lists::ListAnswer;
+use point_lists::forward_list;
+use point_lists::inverse_list;
 ghost use mathlib.Core.Path.{_≡_};
 ghost use Prim.Native.Nat.{_≤_};
-ghost use Rattle.points.specs.Lists.{forwardRow, inverseRow, list-told};
+ghost use Rattle.points.specs.Pairs.{forwardRow, inverseRow};
+ghost use Rattle.point_lists.specs.Lists.{list-told};
 ghost use Rattle.laea_c.specs.Calls.{setOf, returned as returnedOf, ReturnsList};
 
 // The count, or the refusal number made negative.

@@ -7,7 +7,7 @@ use crate::list_rows::count_row;
 use crate::list_rows::run;
 use crate::point_rows::compare;
 use parameters::Parameters;
-use points::pairs::Marked;
+use points::pairs::Row;
 use printing::size;
 use printing::verdict;
 use printing::words;

@@ -5,7 +5,7 @@ use crate::doubles::show_both;
 use parameters::Parameters;
 use points::pairs::GeodeticPair;
 use points::pairs::GeodeticPairAnswer;
-use points::pairs::Marked;
+use points::pairs::Row;
 use points::pairs::PlanePair;
 use points::pairs::PlanePairAnswer;
 use points::single::forward_degrees;

@@ -1,5 +1,2 @@
-mod Tests
-pub mod PairLaws
-pub mod MarkLaws
-pub mod ListLaws
-pub mod ListedLaws
+pub mod Tests
+pub mod AnswerLaws

@@ -1,4 +1,3 @@
-// The customer's calls: degrees and metres as f64, one point or a list at a time.
-pub mod lists;
+// The customer's calls on one point: degrees and metres as f64.
 pub mod pairs;
 pub mod single;

@@ -8,7 +8,7 @@ use floats::is_longitude;
 use floats::is_plane;
 use floats::mas_to_degrees;
 ghost use mathlib.Core.Path.{_≡_};
-ghost use Rattle.points.specs.Points.{areFinite, onGlobe, onPlane, inMetres, inDegrees};
+ghost use Rattle.points.specs.Pairs.{areFinite, withinGlobe, withinPlane, inMetres, inDegrees, plane-row, geodetic-row};
 
 // In degrees.
 pub struct GeodeticPair {
@@ -35,7 +35,7 @@ pub enum GeodeticPairAnswer {
 }
 
 // An answer as a list holds it: its two values and mark 0, or 0.0, 0.0 and its refusal number.
-pub struct Marked {
+pub struct Row {
     pub mark: u8,
     pub first: f64,
     pub second: f64,
@@ -52,8 +52,8 @@ pub fn are_finite(x: f64, y: f64) -> bool
 }
 
 // Latitude within ±90° and longitude within ±180°.
-pub fn is_on_globe(at: GeodeticPair) -> bool
-    ensures { λ r. ⌜ r ≡ onGlobe at ⌝ }
+pub fn is_within_globe(at: GeodeticPair) -> bool
+    ensures { λ r. ⌜ r ≡ withinGlobe at ⌝ }
 {
     if !is_latitude(at.latitude) {
         return false;
@@ -62,8 +62,8 @@ pub fn is_on_globe(at: GeodeticPair) -> bool
 }
 
 // Both within ±50,000,000 m.
-pub fn is_on_plane(at: PlanePair) -> bool
-    ensures { λ r. ⌜ r ≡ onPlane at ⌝ }
+pub fn is_within_plane(at: PlanePair) -> bool
+    ensures { λ r. ⌜ r ≡ withinPlane at ⌝ }
 {
     if !is_plane(at.first) {
         return false;
@@ -97,5 +97,41 @@ pub fn in_degrees(answer: GeodeticAnswer) -> GeodeticPairAnswer
             longitude: mas_to_degrees(longitude),
         }),
         GeodeticAnswer::Refused(number) => GeodeticPairAnswer::Refused(number),
+    }
+}
+
+// An answer as a list holds it.
+pub fn plane_row(answer: PlanePairAnswer) -> Row
+    ensures { λ r. ⌜ r ≡ plane-row answer ⌝ }
+{
+    match answer {
+        PlanePairAnswer::Metres(pair) => Row {
+            mark: 0,
+            first: pair.first,
+            second: pair.second,
+        },
+        PlanePairAnswer::Refused(number) => Row {
+            mark: number,
+            first: 0.0,
+            second: 0.0,
+        },
+    }
+}
+
+// An answer as a list holds it.
+pub fn geodetic_row(answer: GeodeticPairAnswer) -> Row
+    ensures { λ r. ⌜ r ≡ geodetic-row answer ⌝ }
+{
+    match answer {
+        GeodeticPairAnswer::Degrees(pair) => Row {
+            mark: 0,
+            first: pair.latitude,
+            second: pair.longitude,
+        },
+        GeodeticPairAnswer::Refused(number) => Row {
+            mark: number,
+            first: 0.0,
+            second: 0.0,
+        },
     }
 }

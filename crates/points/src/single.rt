@@ -6,8 +6,8 @@ use crate::pairs::PlanePairAnswer;
 use crate::pairs::are_finite;
 use crate::pairs::in_degrees;
 use crate::pairs::in_metres;
-use crate::pairs::is_on_globe;
-use crate::pairs::is_on_plane;
+use crate::pairs::is_within_globe;
+use crate::pairs::is_within_plane;
 use azimuthal_forward::forward_point;
 use azimuthal_inverse::inverse_point;
 use constants::Constants;
@@ -16,30 +16,30 @@ use floats::degrees_to_mas;
 use floats::metres_to_cm;
 use latitudes::Geodetic;
 use parameters::Parameters;
+use sine_table::Table;
+use units::refusals::NOT_FINITE;
+use units::refusals::OUT_OF_LIMITS;
 ghost use mathlib.Core.Path.{_≡_};
-ghost use Rattle.sine_table.specs.Table.{IsTable};
-ghost use Rattle.parameters.specs.ParameterSet.{setRefusal};
-ghost use Rattle.constants.specs.Derived.{constantsOf};
-ghost use Rattle.points.specs.Points.{forwardPair, inversePair, forwardDegrees, inverseMetres};
-ghost use Rattle.points.specs.Told.{plane-marked, geodetic-marked, forwardMarked, inverseMarked};
+ghost use Rattle.constants.specs.Derived.{Prepared};
+ghost use Rattle.points.specs.Pairs.{plane-row, geodetic-row, forwardDegrees, forwardRow, inverseMetres, inverseRow};
 
 // A pair with an accepted set and its constants.
 pub fn forward_pair(
-    t: &[u32; 5401],
+    t: &Table,
     p: Parameters,
     k: Constants,
     at: GeodeticPair,
 ) -> PlanePairAnswer
-    requires { ⌜ IsTable (now t) × (setRefusal p ≡ 0) × (k ≡ constantsOf p) ⌝ }
-    ensures { λ r. ⌜ r ≡ forwardPair p at ⌝ }
+    requires { ⌜ Prepared (now t) p k ⌝ }
+    ensures { λ r. ⌜ r ≡ forwardDegrees p at ⌝ }
 {
     let lat = at.latitude;
     let lon = at.longitude;
     if !are_finite(lat, lon) {
-        return PlanePairAnswer::Refused(2);
+        return PlanePairAnswer::Refused(NOT_FINITE);
     }
-    if !is_on_globe(at) {
-        return PlanePairAnswer::Refused(3);
+    if !is_within_globe(at) {
+        return PlanePairAnswer::Refused(OUT_OF_LIMITS);
     }
     let phi = Geodetic(degrees_to_mas(lat));
     in_metres(forward_point(t, p, k, phi, degrees_to_mas(lon)))
@@ -47,28 +47,28 @@ pub fn forward_pair(
 
 // A pair with an accepted set and its constants.
 pub fn inverse_pair(
-    t: &[u32; 5401],
+    t: &Table,
     p: Parameters,
     k: Constants,
     at: PlanePair,
 ) -> GeodeticPairAnswer
-    requires { ⌜ IsTable (now t) × (setRefusal p ≡ 0) × (k ≡ constantsOf p) ⌝ }
-    ensures { λ r. ⌜ r ≡ inversePair p at ⌝ }
+    requires { ⌜ Prepared (now t) p k ⌝ }
+    ensures { λ r. ⌜ r ≡ inverseMetres p at ⌝ }
 {
     let first = at.first;
     let second = at.second;
     if !are_finite(first, second) {
-        return GeodeticPairAnswer::Refused(2);
+        return GeodeticPairAnswer::Refused(NOT_FINITE);
     }
-    if !is_on_plane(at) {
-        return GeodeticPairAnswer::Refused(3);
+    if !is_within_plane(at) {
+        return GeodeticPairAnswer::Refused(OUT_OF_LIMITS);
     }
     in_degrees(inverse_point(t, p, k, metres_to_cm(first), metres_to_cm(second)))
 }
 
 // Any set, any pair of doubles: the customer's call from degrees to metres.
 pub fn forward_degrees(p: Parameters, at: GeodeticPair) -> PlanePairAnswer
-    ensures { λ r. ⌜ (r ≡ forwardDegrees p at) × (plane-marked r ≡ forwardMarked p at) ⌝ }
+    ensures { λ r. ⌜ (r ≡ forwardDegrees p at) × (plane-row r ≡ forwardRow p at) ⌝ }
 {
     let refusal = p.refusal();
     if refusal != 0 {
@@ -80,7 +80,7 @@ pub fn forward_degrees(p: Parameters, at: GeodeticPair) -> PlanePairAnswer
 
 // Any set, any pair of doubles: the customer's call from metres to degrees.
 pub fn inverse_metres(p: Parameters, at: PlanePair) -> GeodeticPairAnswer
-    ensures { λ r. ⌜ (r ≡ inverseMetres p at) × (geodetic-marked r ≡ inverseMarked p at) ⌝ }
+    ensures { λ r. ⌜ (r ≡ inverseMetres p at) × (geodetic-row r ≡ inverseRow p at) ⌝ }
 {
     let refusal = p.refusal();
     if refusal != 0 {

@@ -24,7 +24,7 @@ use Rattle.points.specs.declared.pairs.PlanePairAnswer.{PlanePairAnswer}
 use Rattle.points.specs.declared.pairs.PlanePairAnswer.the-variants.{Metres, Refused}
 use Rattle.points.specs.declared.pairs.GeodeticPairAnswer.{GeodeticPairAnswer}
 use Rattle.points.specs.declared.pairs.GeodeticPairAnswer.the-variants.{Degrees, Refused as NotFound}
-use Rattle.points.specs.Points.{areFinite, onGlobe, onPlane, latitudeMas, longitudeMas, eastingCm, northingCm, planePair, geodeticPair, inMetres, inDegrees, tested, after, forwardPair, inversePair, forwardDegrees, inverseMetres}
+use Rattle.points.specs.Pairs.{areFinite, withinGlobe, withinPlane, latitudeMas, longitudeMas, eastingCm, northingCm, planePair, geodeticPair, inMetres, inDegrees, tested, after, forwardPair, inversePair, forwardDegrees, inverseMetres}
 use Rattle.points_laws.specs.Theorems.{ForwardConverted, InverseConverted, ForwardFinite, InverseFinite, ForwardBack, InverseBack}
 
 -- a call whose answer is a pair has passed every test
@@ -54,7 +54,7 @@ metres-of (Refused n) = planePair (pos 0) (pos 0)
 
 pub forward-converted : ForwardConverted
 unfolding forwardDegrees forwardPair
-forward-converted p at pair e = sym (last-answer is-metres Refused (λ n. refl) refl (setRefusal p) (areFinite (at .latitude) (at .longitude)) (onGlobe at) _ e)
+forward-converted p at pair e = sym (last-answer is-metres Refused (λ n. refl) refl (setRefusal p) (areFinite (at .latitude) (at .longitude)) (withinGlobe at) _ e)
 
 pub forward-set-accepted : (p : Parameters) (at : GeodeticPair) (pair : PlanePair) → forwardDegrees p at ≡ Metres pair → setRefusal p ≡ 0
 unfolding forwardDegrees
@@ -104,7 +104,7 @@ degrees-of (NotFound n) = geodeticPair (pos 0) (pos 0)
 
 pub inverse-converted : InverseConverted
 unfolding inverseMetres inversePair
-inverse-converted p at pair e = sym (last-answer is-degrees NotFound (λ n. refl) refl (setRefusal p) (areFinite (at .first) (at .second)) (onPlane at) _ e)
+inverse-converted p at pair e = sym (last-answer is-degrees NotFound (λ n. refl) refl (setRefusal p) (areFinite (at .first) (at .second)) (withinPlane at) _ e)
 
 -- the whole numbers of an answer in degrees
 record GeodeticWhole (answer : GeodeticAnswer) (pair : GeodeticPair) : Type 0 where

@@ -8,20 +8,20 @@ use lib.ListN.{length, getD}
 use Rattle.parameters.specs.declared.Parameters.{Parameters}
 use Rattle.parameters.specs.ParameterSet.{setRefusal}
 use Rattle.units.specs.Refusals.{firstOf}
-use Rattle.points.specs.declared.pairs.Marked.{Marked}
-use Rattle.points.specs.declared.lists.ListAnswer.{ListAnswer}
-use Rattle.points.specs.Told.{plane-marked, geodetic-marked}
-use Rattle.points.specs.Lists.{degrees, metres, forwardRow, inverseRow, rows, lengthRefusal, listRefusal, zeros, written, listAnswer, ListCall}
+use Rattle.points.specs.declared.pairs.Row.{Row}
+use Rattle.point_lists.specs.declared.ListAnswer.{ListAnswer}
+use Rattle.points.specs.Pairs.{plane-row, geodetic-row, degrees, metres, forwardRow, inverseRow}
+use Rattle.point_lists.specs.Lists.{rows, lengthRefusal, listRefusal, zeros, written, listAnswer, ListCall}
 use Rattle.points.proofs.PairLaws.{forward-degrees-accepted, inverse-metres-accepted}
-use Rattle.points.proofs.ListLaws.{column-at, column-length}
-use Rattle.points.proofs.ListedLaws.{equal-lengths}
+use Rattle.point_lists.proofs.ListLaws.{column-at, column-length}
+use Rattle.point_lists.proofs.ListedLaws.{equal-lengths}
 use Rattle.points_laws.specs.Theorems.{rowAt, ForwardListed, InverseListed, ListCounted, ListRefused}
 
 none-of-two : (a b : ℕ) → firstOf a b ≡ 0 → (a ≡ 0) × (b ≡ 0)
 none-of-two zero b e = (refl, e)
 none-of-two (suc a) b e = let z : ⊥ = omega (arith, e) in absurd z
 
-same-row : {r : Marked} {m : ℕ} {x y : Float} → m ≡ r .mark → x ≡ r .first → y ≡ r .second → record { mark = m; first = x; second = y } ≡ r
+same-row : {r : Row} {m : ℕ} {x y : Float} → m ≡ r .mark → x ≡ r .first → y ≡ r .second → record { mark = m; first = x; second = y } ≡ r
 same-row e f g = rw (e, f, g)
 
 -- a call that is not refused
@@ -36,17 +36,17 @@ module _ (p : Parameters) (xs ys first second : List Float) (mark : List ℕ) (n
   same-length : length ys ≡ length xs
   same-length = equal-lengths _ _ _ _ _ (tests-passed .0) .0
 
-module _ (p : Parameters) (row : Float → Float → Marked) (xs ys first first′ second second′ : List Float) (mark mark′ : List ℕ) (answer : ListAnswer) (call : ListCall p row xs ys first first′ second second′ mark mark′ answer) where
+module _ (p : Parameters) (row : Float → Float → Row) (xs ys first first′ second second′ : List Float) (mark mark′ : List ℕ) (answer : ListAnswer) (call : ListCall p row xs ys first first′ second second′ mark mark′ answer) where
   -- the call's refusal
   module _ (n : ℕ) (is : listRefusal p xs ys first second mark ≡ n) where
-    firsts-by : first′ ≡ written n (map (λ (r : Marked). r .first) (rows row xs ys)) first
-    firsts-by = call .firsts-are ∙ ap (λ (k : ℕ). written k (map (λ (r : Marked). r .first) (rows row xs ys)) first) is
+    firsts-by : first′ ≡ written n (map (λ (r : Row). r .first) (rows row xs ys)) first
+    firsts-by = call .firsts-are ∙ ap (λ (k : ℕ). written k (map (λ (r : Row). r .first) (rows row xs ys)) first) is
 
-    seconds-by : second′ ≡ written n (map (λ (r : Marked). r .second) (rows row xs ys)) second
-    seconds-by = call .seconds-are ∙ ap (λ (k : ℕ). written k (map (λ (r : Marked). r .second) (rows row xs ys)) second) is
+    seconds-by : second′ ≡ written n (map (λ (r : Row). r .second) (rows row xs ys)) second
+    seconds-by = call .seconds-are ∙ ap (λ (k : ℕ). written k (map (λ (r : Row). r .second) (rows row xs ys)) second) is
 
-    marks-by : mark′ ≡ written n (map (λ (r : Marked). r .mark) (rows row xs ys)) mark
-    marks-by = call .marks-are ∙ ap (λ (k : ℕ). written k (map (λ (r : Marked). r .mark) (rows row xs ys)) mark) is
+    marks-by : mark′ ≡ written n (map (λ (r : Row). r .mark) (rows row xs ys)) mark
+    marks-by = call .marks-are ∙ ap (λ (k : ℕ). written k (map (λ (r : Row). r .mark) (rows row xs ys)) mark) is
 
     answer-by : answer ≡ listAnswer n (zeros mark′)
     answer-by = call .answer-is ∙ ap (λ (k : ℕ). listAnswer k (zeros mark′)) is
@@ -56,29 +56,29 @@ module _ (p : Parameters) (row : Float → Float → Marked) (xs ys first first�
     row-at k l =
         let same = same-length p xs ys first second mark none in
         same-row
-        (ap (λ (t : List ℕ). getD t k 0) (marks-by 0 none) ∙ column-at (λ (r : Marked). r .mark) row xs ys k 0 nan nan same l)
-        (ap (λ (t : List Float). getD t k nan) (firsts-by 0 none) ∙ column-at (λ (r : Marked). r .first) row xs ys k nan nan nan same l)
-        (ap (λ (t : List Float). getD t k nan) (seconds-by 0 none) ∙ column-at (λ (r : Marked). r .second) row xs ys k nan nan nan same l)
+        (ap (λ (t : List ℕ). getD t k 0) (marks-by 0 none) ∙ column-at (λ (r : Row). r .mark) row xs ys k 0 nan nan same l)
+        (ap (λ (t : List Float). getD t k nan) (firsts-by 0 none) ∙ column-at (λ (r : Row). r .first) row xs ys k nan nan nan same l)
+        (ap (λ (t : List Float). getD t k nan) (seconds-by 0 none) ∙ column-at (λ (r : Row). r .second) row xs ys k nan nan nan same l)
 
 pub forward-listed : ForwardListed
 unfolding forwardRow
 forward-listed p xs ys first first′ second second′ mark mark′ answer call none k l =
     row-at p (forwardRow p) xs ys first first′ second second′ mark mark′ answer call none k l
-    ∙ ap plane-marked (sym (forward-degrees-accepted p (degrees (getD xs k nan) (getD ys k nan)) (set-accepted p xs ys first second mark none)))
+    ∙ ap plane-row (sym (forward-degrees-accepted p (degrees (getD xs k nan) (getD ys k nan)) (set-accepted p xs ys first second mark none)))
 
 pub inverse-listed : InverseListed
 unfolding inverseRow
 inverse-listed p xs ys first first′ second second′ mark mark′ answer call none k l =
     row-at p (inverseRow p) xs ys first first′ second second′ mark mark′ answer call none k l
-    ∙ ap geodetic-marked (sym (inverse-metres-accepted p (metres (getD xs k nan) (getD ys k nan)) (set-accepted p xs ys first second mark none)))
+    ∙ ap geodetic-row (sym (inverse-metres-accepted p (metres (getD xs k nan) (getD ys k nan)) (set-accepted p xs ys first second mark none)))
 
 pub list-counted : ListCounted
 list-counted p row xs ys first first′ second second′ mark mark′ answer call none =
     let same = same-length p xs ys first second mark none in (
       answer-by p row xs ys first first′ second second′ mark mark′ answer call 0 none,
-      ap length (firsts-by p row xs ys first first′ second second′ mark mark′ answer call 0 none) ∙ column-length (λ (r : Marked). r .first) row xs ys same,
-      ap length (seconds-by p row xs ys first first′ second second′ mark mark′ answer call 0 none) ∙ column-length (λ (r : Marked). r .second) row xs ys same,
-      ap length (marks-by p row xs ys first first′ second second′ mark mark′ answer call 0 none) ∙ column-length (λ (r : Marked). r .mark) row xs ys same,
+      ap length (firsts-by p row xs ys first first′ second second′ mark mark′ answer call 0 none) ∙ column-length (λ (r : Row). r .first) row xs ys same,
+      ap length (seconds-by p row xs ys first first′ second second′ mark mark′ answer call 0 none) ∙ column-length (λ (r : Row). r .second) row xs ys same,
+      ap length (marks-by p row xs ys first first′ second second′ mark mark′ answer call 0 none) ∙ column-length (λ (r : Row). r .mark) row xs ys same,
     )
 
 pub list-refused : ListRefused

@@ -20,13 +20,11 @@ use Rattle.round_trip.specs.RoundTrip.{latitude-bound, gap-bound, RoundTripAt, 
 use Rattle.round_trip.proofs.Demand3.{demand-3}
 use Rattle.points.specs.declared.pairs.GeodeticPair.{GeodeticPair}
 use Rattle.points.specs.declared.pairs.PlanePair.{PlanePair}
-use Rattle.points.specs.declared.pairs.Marked.{Marked}
+use Rattle.points.specs.declared.pairs.Row.{Row}
 use Rattle.points.specs.declared.pairs.PlanePairAnswer.{PlanePairAnswer}
 use Rattle.points.specs.declared.pairs.PlanePairAnswer.the-variants.{Metres, Refused}
 use Rattle.points.specs.declared.pairs.GeodeticPairAnswer.the-variants.{Degrees}
-use Rattle.points.specs.Points.{areFinite, onGlobe, latitudeMas, longitudeMas, eastingCm, northingCm, geodeticPair, inMetres, inDegrees, tested, after, forwardPair, forwardDegrees, inverseMetres}
-use Rattle.points.specs.Told.{plane-marked, geodetic-marked}
-use Rattle.points.specs.Lists.{degrees, metres}
+use Rattle.points.specs.Pairs.{areFinite, withinGlobe, latitudeMas, longitudeMas, eastingCm, northingCm, geodeticPair, inMetres, inDegrees, tested, after, forwardPair, forwardDegrees, inverseMetres, plane-row, geodetic-row, degrees, metres}
 use Rattle.points_laws.specs.Theorems.{rowAt}
 use Rattle.points_laws.specs.RoundTrip.{PairCloseTo, FloatRoundTrip, ForwardDecided, CentreForwardListed, CentreInverseListed, ListRoundTrip}
 use Rattle.points_laws.proofs.Converted.{forward-set-accepted, metres-whole, metres-size, forward-back, inverse-back}
@@ -76,15 +74,15 @@ numbered-metres : (answer : PlaneAnswer) → ((n : ℕ) → answer ≡ PlaneRefu
 numbered-metres (Plane E N) h = tt
 numbered-metres (PlaneRefused n) h = not-zero (h n refl)
 
-decided : (answer : PlanePairAnswer) (first second : Float) → Numbered answer → plane-marked answer ≡ record { mark = 0; first = first; second = second } → answer ≡ Metres (metres first second)
-decided (Metres pair) first second h e = ap (λ (m : Marked). Metres (metres (m .first) (m .second))) e
-decided (Refused n) first second h e = absurd (h (ap (λ (m : Marked). m .mark) e))
+decided : (answer : PlanePairAnswer) (first second : Float) → Numbered answer → plane-row answer ≡ record { mark = 0; first = first; second = second } → answer ≡ Metres (metres first second)
+decided (Metres pair) first second h e = ap (λ (m : Row). Metres (metres (m .first) (m .second))) e
+decided (Refused n) first second h e = absurd (h (ap (λ (m : Row). m .mark) e))
 
 pub forward-decided : ForwardDecided
 unfolding forwardDegrees forwardPair
 forward-decided p at first second e =
     decided (forwardDegrees p at) first second
-    (numbered-after (setRefusal p) (areFinite (at .latitude) (at .longitude)) (onGlobe at) _ (numbered-metres (forwardOf p (latitudeMas at) (longitudeMas at)) (forward-numbers p (latitudeMas at) (longitudeMas at))))
+    (numbered-after (setRefusal p) (areFinite (at .latitude) (at .longitude)) (withinGlobe at) _ (numbered-metres (forwardOf p (latitudeMas at) (longitudeMas at)) (forward-numbers p (latitudeMas at) (longitudeMas at))))
     e
 
 -- ---- at an index
@@ -92,14 +90,14 @@ forward-decided p at first second e =
 pub centre-forward-listed : CentreForwardListed
 centre-forward-listed p xs ys first first′ second second′ mark mark′ answer call none k l at =
     forward-listed p xs ys first first′ second second′ mark mark′ answer call none k l
-    ∙ ap (λ g. plane-marked (forwardDegrees p g)) at
-    ∙ ap plane-marked (centre-forward p (set-accepted p xs ys first second mark none))
+    ∙ ap (λ g. plane-row (forwardDegrees p g)) at
+    ∙ ap plane-row (centre-forward p (set-accepted p xs ys first second mark none))
 
 pub centre-inverse-listed : CentreInverseListed
 centre-inverse-listed p xs ys first first′ second second′ mark mark′ answer call none k l at =
     inverse-listed p xs ys first first′ second second′ mark mark′ answer call none k l
-    ∙ ap (λ g. geodetic-marked (inverseMetres p g)) at
-    ∙ ap geodetic-marked (centre-inverse p (set-accepted p xs ys first second mark none))
+    ∙ ap (λ g. geodetic-row (inverseMetres p g)) at
+    ∙ ap geodetic-row (centre-inverse p (set-accepted p xs ys first second mark none))
 
 pub list-round-trip : ListRoundTrip
 list-round-trip p xs ys first first′ second second′ mark mark′ answer call none lat lat′ lon lon′ again again′ answer′ call′ none′ k l zero-mark near =
@@ -110,6 +108,6 @@ list-round-trip p xs ys first first′ second second′ mark mark′ answer call
     (sym (forward-listed p xs ys first first′ second second′ mark mark′ answer call none k l) ∙ ap (λ (m : ℕ). record { mark = m; first = getD first′ k nan; second = getD second′ k nan }) zero-mark) in
     let trip = float-round-trip p at pair near there in
     let l′ : k < length first′ = subst (λ (n : ℕ). k < n) (sym (list-counted p _ xs ys first first′ second second′ mark mark′ answer call none .1)) l in
-    let row : rowAt k lat′ lon′ again′ ≡ geodetic-marked (Degrees (trip .back)) =
-    inverse-listed p first′ second′ lat lat′ lon lon′ again again′ answer′ call′ none′ k l′ ∙ ap geodetic-marked (trip .accepted) in
-    (ap (λ (m : Marked). m .mark) row, subst (PairCloseTo p at) (ap (λ (m : Marked). degrees (m .first) (m .second)) (sym row)) (trip .close))
+    let row : rowAt k lat′ lon′ again′ ≡ geodetic-row (Degrees (trip .back)) =
+    inverse-listed p first′ second′ lat lat′ lon lon′ again again′ answer′ call′ none′ k l′ ∙ ap geodetic-row (trip .accepted) in
+    (ap (λ (m : Row). m .mark) row, subst (PairCloseTo p at) (ap (λ (m : Row). degrees (m .first) (m .second)) (sym row)) (trip .close))

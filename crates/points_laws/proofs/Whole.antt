@@ -15,21 +15,21 @@ use Rattle.projection_laws.proofs.Centre.{centre-forward as whole-centre-forwar
 use Rattle.projection_laws.proofs.Refusals.{forward-decided, inverse-decided}
 use Rattle.points.specs.declared.pairs.GeodeticPair.{GeodeticPair}
 use Rattle.points.specs.declared.pairs.PlanePair.{PlanePair}
-use Rattle.points.specs.Points.{areFinite, onGlobe, onPlane, latitudeMas, longitudeMas, eastingCm, northingCm, planePair, geodeticPair, inMetres, inDegrees, forwardPair, inversePair, forwardDegrees, inverseMetres}
+use Rattle.points.specs.Pairs.{areFinite, withinGlobe, withinPlane, latitudeMas, longitudeMas, eastingCm, northingCm, planePair, geodeticPair, inMetres, inDegrees, forwardPair, inversePair, forwardDegrees, inverseMetres}
 use Rattle.points.proofs.PairLaws.{forward-degrees-accepted, inverse-metres-accepted}
 use Rattle.points_laws.specs.Theorems.{ForwardWhole, InverseWhole, CentreForward, CentreInverse}
 
 -- a pair that passes the tests, with an accepted set
-forward-passed : (p : Parameters) → setRefusal p ≡ 0 → (at : GeodeticPair) → areFinite (at .latitude) (at .longitude) ≡ true → onGlobe at ≡ true → forwardDegrees p at ≡ inMetres (forwardOf p (latitudeMas at) (longitudeMas at))
+forward-passed : (p : Parameters) → setRefusal p ≡ 0 → (at : GeodeticPair) → areFinite (at .latitude) (at .longitude) ≡ true → withinGlobe at ≡ true → forwardDegrees p at ≡ inMetres (forwardOf p (latitudeMas at) (longitudeMas at))
 unfolding forwardPair
 forward-passed p set at f g = forward-degrees-accepted p at set ∙ rw (f, g)
 
-inverse-passed : (p : Parameters) → setRefusal p ≡ 0 → (at : PlanePair) → areFinite (at .first) (at .second) ≡ true → onPlane at ≡ true → inverseMetres p at ≡ inDegrees (inverseOf p (eastingCm at) (northingCm at))
+inverse-passed : (p : Parameters) → setRefusal p ≡ 0 → (at : PlanePair) → areFinite (at .first) (at .second) ≡ true → withinPlane at ≡ true → inverseMetres p at ≡ inDegrees (inverseOf p (eastingCm at) (northingCm at))
 unfolding inversePair
 inverse-passed p set at f g = inverse-metres-accepted p at set ∙ rw (f, g)
 
 pub forward-whole : ForwardWhole
-unfolding areFinite onGlobe latitudeMas longitudeMas
+unfolding areFinite withinGlobe latitudeMas longitudeMas
 forward-whole p set φ lon Φ Λ =
     forward-passed p set (geodeticPair φ lon)
     (rw (float-finite latitude φ Φ, float-finite longitude lon Λ))
@@ -37,7 +37,7 @@ forward-whole p set φ lon Φ Λ =
     ∙ ap₂ (λ (x y : ℤ). inMetres (forwardOf p (record { 0 = x }) y)) (float-back latitude φ Φ) (float-back longitude lon Λ)
 
 pub inverse-whole : InverseWhole
-unfolding areFinite onPlane eastingCm northingCm
+unfolding areFinite withinPlane eastingCm northingCm
 inverse-whole p set E N Ε Ν =
     inverse-passed p set (planePair E N)
     (rw (float-finite plane E Ε, float-finite plane N Ν))

@@ -15,10 +15,9 @@ use Rattle.points.specs.declared.pairs.PlanePair.{PlanePair}
 use Rattle.points.specs.declared.pairs.GeodeticPairAnswer.{GeodeticPairAnswer}
 use Rattle.points.specs.declared.pairs.PlanePairAnswer.the-variants.{Metres}
 use Rattle.points.specs.declared.pairs.GeodeticPairAnswer.the-variants.{Degrees}
-use Rattle.points.specs.declared.lists.ListAnswer.{ListAnswer}
-use Rattle.points.specs.Points.{latitudeMas, longitudeMas, planePair, geodeticPair, forwardDegrees, inverseMetres}
-use Rattle.points.specs.Told.{plane-marked, geodetic-marked}
-use Rattle.points.specs.Lists.{degrees, metres, forwardRow, inverseRow, listRefusal, ListCall}
+use Rattle.point_lists.specs.declared.ListAnswer.{ListAnswer}
+use Rattle.points.specs.Pairs.{latitudeMas, longitudeMas, planePair, geodeticPair, forwardDegrees, inverseMetres, plane-row, geodetic-row, degrees, metres, forwardRow, inverseRow}
+use Rattle.point_lists.specs.Lists.{listRefusal, ListCall}
 use Rattle.points_laws.specs.Theorems.{rowAt}
 
 -- ---- demand 3
@@ -51,7 +50,7 @@ FloatRoundTrip =
 abbrev pub ForwardDecided : Type 0
 ForwardDecided =
     (p : Parameters) (at : GeodeticPair) (first second : Float) →
-    plane-marked (forwardDegrees p at) ≡ record { mark = 0; first = first; second = second } →
+    plane-row (forwardDegrees p at) ≡ record { mark = 0; first = first; second = second } →
     forwardDegrees p at ≡ Metres (metres first second)
 
 -- the exact centre, in a list call that is not refused
@@ -63,7 +62,7 @@ CentreForwardListed =
     (k : ℕ) →
     k < length xs →
     degrees (getD xs k nan) (getD ys k nan) ≡ geodeticPair (p .lat0 .0) (p .lon0) →
-    rowAt k first′ second′ mark′ ≡ plane-marked (Metres (planePair (p .«false_easting») (p .«false_northing»)))
+    rowAt k first′ second′ mark′ ≡ plane-row (Metres (planePair (p .«false_easting») (p .«false_northing»)))
 
 abbrev pub CentreInverseListed : Type 0
 CentreInverseListed =
@@ -73,7 +72,7 @@ CentreInverseListed =
     (k : ℕ) →
     k < length xs →
     metres (getD xs k nan) (getD ys k nan) ≡ planePair (p .«false_easting») (p .«false_northing») →
-    rowAt k first′ second′ mark′ ≡ geodetic-marked (Degrees (geodeticPair (p .lat0 .0) (p .lon0)))
+    rowAt k first′ second′ mark′ ≡ geodetic-row (Degrees (geodeticPair (p .lat0 .0) (p .lon0)))
 
 -- Demand 3 at an index: a forward list call, then an inverse list call on the two lists that it wrote.
 -- A position that meets the conditions and has mark 0 has mark 0 again, and comes back close.

@@ -16,14 +16,13 @@ use Rattle.azimuthal_inverse.specs.Answer.{inverseOf}
 use Rattle.projection_laws.specs.Theorems.{sizeless}
 use Rattle.points.specs.declared.pairs.GeodeticPair.{GeodeticPair}
 use Rattle.points.specs.declared.pairs.PlanePair.{PlanePair}
-use Rattle.points.specs.declared.pairs.Marked.{Marked}
+use Rattle.points.specs.declared.pairs.Row.{Row}
 use Rattle.points.specs.declared.pairs.PlanePairAnswer.the-variants.{Metres, Refused as PlaneRefused}
 use Rattle.points.specs.declared.pairs.GeodeticPairAnswer.the-variants.{Degrees, Refused as NotFound}
-use Rattle.points.specs.declared.lists.ListAnswer.{ListAnswer}
-use Rattle.points.specs.declared.lists.ListAnswer.the-variants.{Count, Refused}
-use Rattle.points.specs.Points.{latitudeMas, longitudeMas, eastingCm, northingCm, planePair, geodeticPair, inMetres, inDegrees, forwardDegrees, inverseMetres}
-use Rattle.points.specs.Told.{zeroFloat, plane-marked, geodetic-marked}
-use Rattle.points.specs.Lists.{degrees, metres, forwardRow, inverseRow, listRefusal, zeros, ListCall}
+use Rattle.point_lists.specs.declared.ListAnswer.{ListAnswer}
+use Rattle.point_lists.specs.declared.ListAnswer.the-variants.{Count, Refused}
+use Rattle.points.specs.Pairs.{latitudeMas, longitudeMas, eastingCm, northingCm, planePair, geodeticPair, inMetres, inDegrees, forwardDegrees, inverseMetres, zeroFloat, plane-row, geodetic-row, degrees, metres, forwardRow, inverseRow}
+use Rattle.point_lists.specs.Lists.{listRefusal, zeros, ListCall}
 
 -- ---- accepted answers of single calls
 
@@ -103,7 +102,7 @@ CentreInverse =
 -- ---- lists
 
 -- what stands at an index of the three lists that a call writes
-abbrev pub rowAt : ℕ → List Float → List Float → List ℕ → Marked
+abbrev pub rowAt : ℕ → List Float → List Float → List ℕ → Row
 rowAt k first second mark = record { mark = getD mark k 0; first = getD first k nan; second = getD second k nan }
 
 -- the list call equals the single call at every index
@@ -114,7 +113,7 @@ ForwardListed =
     listRefusal p xs ys first second mark ≡ 0 →
     (k : ℕ) →
     k < length xs →
-    rowAt k first′ second′ mark′ ≡ plane-marked (forwardDegrees p (degrees (getD xs k nan) (getD ys k nan)))
+    rowAt k first′ second′ mark′ ≡ plane-row (forwardDegrees p (degrees (getD xs k nan) (getD ys k nan)))
 
 abbrev pub InverseListed : Type 0
 InverseListed =
@@ -123,12 +122,12 @@ InverseListed =
     listRefusal p xs ys first second mark ≡ 0 →
     (k : ℕ) →
     k < length xs →
-    rowAt k first′ second′ mark′ ≡ geodetic-marked (inverseMetres p (metres (getD xs k nan) (getD ys k nan)))
+    rowAt k first′ second′ mark′ ≡ geodetic-row (inverseMetres p (metres (getD xs k nan) (getD ys k nan)))
 
 -- such a call answers the count of the marks that are 0, and its lists keep their length
 abbrev pub ListCounted : Type 0
 ListCounted =
-    (p : Parameters) (row : Float → Float → Marked) (xs ys first first′ second second′ : List Float) (mark mark′ : List ℕ) (answer : ListAnswer) →
+    (p : Parameters) (row : Float → Float → Row) (xs ys first first′ second second′ : List Float) (mark mark′ : List ℕ) (answer : ListAnswer) →
     ListCall p row xs ys first first′ second second′ mark mark′ answer →
     listRefusal p xs ys first second mark ≡ 0 →
     (answer ≡ Count (zeros mark′))
@@ -139,7 +138,7 @@ ListCounted =
 -- a call refused by 5, 6 or 1 leaves every lent element as it was and returns the number
 abbrev pub ListRefused : Type 0
 ListRefused =
-    (p : Parameters) (row : Float → Float → Marked) (xs ys first first′ second second′ : List Float) (mark mark′ : List ℕ) (answer : ListAnswer) (n : ℕ) →
+    (p : Parameters) (row : Float → Float → Row) (xs ys first first′ second second′ : List Float) (mark mark′ : List ℕ) (answer : ListAnswer) (n : ℕ) →
     ListCall p row xs ys first first′ second second′ mark mark′ answer →
     listRefusal p xs ys first second mark ≡ suc n →
     (answer ≡ Refused (suc n)) × (first′ ≡ first) × (second′ ≡ second) × (mark′ ≡ mark)
@@ -159,14 +158,14 @@ ForwardWitnesses =
     (forwardDegrees sizeless (degrees past-pole nan) ≡ PlaneRefused 1)
     × (forwardDegrees etrsLaea (degrees past-pole nan) ≡ PlaneRefused 2)
     × (forwardDegrees etrsLaea (degrees past-pole zeroFloat) ≡ PlaneRefused 3)
-    × (plane-marked (forwardDegrees etrsLaea (geodeticPair (negℤ (pos 187_200_000)) (negℤ (pos 612_000_000)))) .mark ≡ 4)
+    × (plane-row (forwardDegrees etrsLaea (geodeticPair (negℤ (pos 187_200_000)) (negℤ (pos 612_000_000)))) .mark ≡ 4)
 
 abbrev pub InverseWitnesses : Type 0
 InverseWitnesses =
     (inverseMetres sizeless (metres past-plane nan) ≡ NotFound 1)
     × (inverseMetres etrsLaea (metres past-plane nan) ≡ NotFound 2)
     × (inverseMetres etrsLaea (metres past-plane zeroFloat) ≡ NotFound 3)
-    × (geodetic-marked (inverseMetres etrsLaea (planePair (pos 5_000_000_000) (pos 0))) .mark ≡ 4)
+    × (geodetic-row (inverseMetres etrsLaea (planePair (pos 5_000_000_000) (pos 0))) .mark ≡ 4)
 
 -- lists of 4,097
 abbrev pub long : List Float

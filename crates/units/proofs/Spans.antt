@@ -7,7 +7,7 @@ use native.Mathlib.Omega.{arith}
 use lib.IntN.{ℤ, pos, negsuc, negℤ, natAbs, _+ℤ_, _-ℤ_}
 use lib.Signed.{_≤ℤ_, _<ℤ_, leZ}
 use Rattle.proof_kit.proofs.Laws.{natAbs-parts, parts-+, parts--}
-use Rattle.proof_kit.proofs.Order.{order, ≤ℤ-antisym, ≤ℤ-total, leZ-true, abs-between, le-leZ, lt-leZ, le-ltZ, lt-ltZ}
+use Rattle.proof_kit.proofs.Order.{order, ≤ℤ-antisym, ≤ℤ-total, leZ-true, abs-between, abs-lower, abs-upper, le-leZ, lt-leZ, le-ltZ, lt-ltZ}
 use Rattle.integers.proofs.Greatest.{both}
 use Rattle.units.specs.Units.{half-turn, full-turn, plane-limit}
 use Rattle.units.specs.Spans.{within, same, inside, on-plane, wrapped}
@@ -26,6 +26,10 @@ pub within-size : (n : ℕ) (z : ℤ) → within (negℤ (pos n)) (pos n) z ≡ 
 within-size n z e =
     let b = within-bounds (negℤ (pos n)) (pos n) z e in
     abs-between z (b .0) (b .1)
+
+pub size-inside : (n : ℕ) (z : ℤ) → natAbs z ≤ n → inside n z ≡ true
+unfolding within
+size-inside n z h = rw (le-leZ (abs-lower z h), le-leZ (abs-upper z h))
 
 pub same-equal : (x y : ℤ) → same x y ≡ true → x ≡ y
 unfolding same

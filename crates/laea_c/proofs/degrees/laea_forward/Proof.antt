@@ -3,8 +3,7 @@ use borrow.Author.Needs.{needs}
 use mathlib.Core.Path.{_≡_, sym, ap, _∙_}
 use lib.Ieee.{ofBits}
 use Rattle.parameters.specs.declared.Parameters.{Parameters}
-use Rattle.points.specs.Told.{plane-marked, forwardMarked}
-use Rattle.points.specs.Lists.{degrees}
+use Rattle.points.specs.Pairs.{plane-row, forwardRow, degrees}
 use Rattle.laea_c.specs.Calls.{setOf}
 use Rattle.laea_c.proofs.CallLaws.{set-is, floats-told}
 use Rattle.laea_c.proofs.degrees.laea_forward.Statement.{statement}
@@ -31,23 +30,23 @@ answer-floats-requires-2 c κs = search needs
 tells :
     (c : tie.After-forward-degrees) →
     let x = c .before .before .args in
-    plane-marked (c .forward-degrees .result) ≡ forwardMarked (setOf (x .a) (x .e2) (x .lat0) (x .lon0) (x .false-easting) (x .false-northing)) (degrees (x .latitude) (x .longitude))
+    plane-row (c .forward-degrees .result) ≡ forwardRow (setOf (x .a) (x .e2) (x .lat0) (x .lon0) (x .false-easting) (x .false-northing)) (degrees (x .latitude) (x .longitude))
 tells c =
     let x = c .before .before .args in
     let f = c .before .before .fits in
     c .forward-degrees .ensures .1
-    ∙ ap (λ (p : Parameters). forwardMarked p (degrees (x .latitude) (x .longitude))) (set-is (f .a) (f .e2) (f .lat0) (f .lon0) (f .false-easting) (f .false-northing) (c .before .set .ensures))
+    ∙ ap (λ (p : Parameters). forwardRow p (degrees (x .latitude) (x .longitude))) (set-is (f .a) (f .e2) (f .lat0) (f .lon0) (f .false-easting) (f .false-northing) (c .before .set .ensures))
 
 returns : tie.Need-returns
 returns c =
     let at = c .before .before .before in
-    floats-told (sym (ap plane-marked (at .answer .given .1)) ∙ tells (at .before .before)) (c .answer-floats .ensures)
+    floats-told (sym (ap plane-row (at .answer .given .1)) ∙ tells (at .before .before)) (c .answer-floats .ensures)
 
 returns-2 : tie.Need-returns-2
 unfolding ofBits
 returns-2 c =
     let at = c .before .before .before in
-    floats-told (sym (ap plane-marked (at .answer2 .given .1)) ∙ tells (at .before .before)) (c .answer-floats2 .ensures)
+    floats-told (sym (ap plane-row (at .answer2 .given .1)) ∙ tells (at .before .before)) (c .answer-floats2 .ensures)
 
 pub laea-forward-spec : {M : Type 1} → statement M
 laea-forward-spec =

@@ -3,8 +3,7 @@ use borrow.Author.Needs.{needs}
 use mathlib.Core.Path.{_≡_, sym, ap, _∙_}
 use lib.Ieee.{ofBits}
 use Rattle.parameters.specs.declared.Parameters.{Parameters}
-use Rattle.points.specs.Told.{geodetic-marked, inverseMarked}
-use Rattle.points.specs.Lists.{metres}
+use Rattle.points.specs.Pairs.{geodetic-row, inverseRow, metres}
 use Rattle.laea_c.specs.Calls.{setOf}
 use Rattle.laea_c.proofs.CallLaws.{set-is, floats-told}
 use Rattle.laea_c.proofs.degrees.laea_inverse.Statement.{statement}
@@ -31,23 +30,23 @@ answer-floats-requires-2 c κs = search needs
 tells :
     (c : tie.After-inverse-metres) →
     let x = c .before .before .args in
-    geodetic-marked (c .inverse-metres .result) ≡ inverseMarked (setOf (x .a) (x .e2) (x .lat0) (x .lon0) (x .false-easting) (x .false-northing)) (metres (x .easting) (x .northing))
+    geodetic-row (c .inverse-metres .result) ≡ inverseRow (setOf (x .a) (x .e2) (x .lat0) (x .lon0) (x .false-easting) (x .false-northing)) (metres (x .easting) (x .northing))
 tells c =
     let x = c .before .before .args in
     let f = c .before .before .fits in
     c .inverse-metres .ensures .1
-    ∙ ap (λ (p : Parameters). inverseMarked p (metres (x .easting) (x .northing))) (set-is (f .a) (f .e2) (f .lat0) (f .lon0) (f .false-easting) (f .false-northing) (c .before .set .ensures))
+    ∙ ap (λ (p : Parameters). inverseRow p (metres (x .easting) (x .northing))) (set-is (f .a) (f .e2) (f .lat0) (f .lon0) (f .false-easting) (f .false-northing) (c .before .set .ensures))
 
 returns : tie.Need-returns
 returns c =
     let at = c .before .before .before in
-    floats-told (sym (ap geodetic-marked (at .answer .given .1)) ∙ tells (at .before .before)) (c .answer-floats .ensures)
+    floats-told (sym (ap geodetic-row (at .answer .given .1)) ∙ tells (at .before .before)) (c .answer-floats .ensures)
 
 returns-2 : tie.Need-returns-2
 unfolding ofBits
 returns-2 c =
     let at = c .before .before .before in
-    floats-told (sym (ap geodetic-marked (at .answer2 .given .1)) ∙ tells (at .before .before)) (c .answer-floats2 .ensures)
+    floats-told (sym (ap geodetic-row (at .answer2 .given .1)) ∙ tells (at .before .before)) (c .answer-floats2 .ensures)
 
 pub laea-inverse-spec : {M : Type 1} → statement M
 laea-inverse-spec =

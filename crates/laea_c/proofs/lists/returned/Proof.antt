@@ -3,8 +3,8 @@ use borrow.Author.Needs.{needs}
 use mathlib.Core.Path.{sym, ap, _∙_}
 use native.Mathlib.Omega.{arith}
 use Rattle.proof_kit.proofs.Range.{returned as as-returned}
-use Rattle.points.specs.declared.lists.ListAnswer.{ListAnswer}
-use Rattle.points.specs.Lists.{list-told}
+use Rattle.point_lists.specs.declared.ListAnswer.{ListAnswer}
+use Rattle.point_lists.specs.Lists.{list-told}
 use Rattle.laea_c.specs.Calls.{returned as returnedOf}
 use Rattle.laea_c.proofs.lists.returned.Statement.{statement}
 use Rattle.laea_c.proofs.lists.returned.Tie as tie

@@ -1,6 +1,6 @@
 -- `pairs::are_finite` meets its contract: each call is one of the two tests. Assumes nothing.
 use borrow.Author.Needs.{needs}
-use Rattle.points.specs.Points.{areFinite}
+use Rattle.points.specs.Pairs.{areFinite}
 use Rattle.points.proofs.Tests.{first-fails, second-decides}
 use Rattle.points.proofs.pairs.are_finite.Statement.{statement}
 use Rattle.points.proofs.pairs.are_finite.Tie as tie

@@ -5,7 +5,7 @@ use lib.Ieee.{Float}
 use mir.Facts.{toZ-ofZ}
 use Rattle.units.specs.Units.{degree}
 use Rattle.floats.specs.Conversion.{floatOf}
-use Rattle.points.specs.Points.{inDegrees}
+use Rattle.points.specs.Pairs.{inDegrees}
 use Rattle.points.specs.declared.pairs.GeodeticPairAnswer.the-variants.{Degrees}
 use Rattle.points.proofs.pairs.in_degrees.Statement.{statement}
 use Rattle.points.proofs.pairs.in_degrees.Tie as tie

@@ -5,7 +5,7 @@ use lib.Ieee.{Float}
 use mir.Facts.{toZ-ofZ}
 use Rattle.units.specs.Units.{metre}
 use Rattle.floats.specs.Conversion.{floatOf}
-use Rattle.points.specs.Points.{inMetres}
+use Rattle.points.specs.Pairs.{inMetres}
 use Rattle.points.specs.declared.pairs.PlanePairAnswer.the-variants.{Metres}
 use Rattle.points.proofs.pairs.in_metres.Statement.{statement}
 use Rattle.points.proofs.pairs.in_metres.Tie as tie

@@ -1,20 +1,18 @@
--- `single::forward_pair` meets its contract: 2, then 3, then the whole-unit answer. Assumes nothing.
+-- `forward_pair` meets its contract: 2, then 3; a pair that passes both rounds to a position on the globe, and its answer is the whole-unit
+-- one in metres. Assumes nothing.
 use borrow.Author.Needs.{needs}
-use borrow.Author.Tests.{not-false}
+use borrow.Author.Tests.{not-true, not-false}
 use mathlib.Core.Path.{_≡_, sym, ap, ap₂, _∙_}
 use mathlib.Core.Bool.{true}
 use lib.IntN.{ℤ}
 use Rattle.proof_kit.proofs.Range.{returned}
-use Rattle.floats.specs.Limits.{within, latitudeLimit, longitudeLimit}
+use Rattle.integers.proofs.Greatest.{both}
+use Rattle.floats.specs.Limits.{withinLimit, latitudeLimit, longitudeLimit}
 use Rattle.floats.proofs.Coordinates.{latitude-is-longitude}
 use Rattle.latitudes.specs.declared.Geodetic.{Geodetic}
 use Rattle.azimuthal_forward.specs.Answer.{forwardOf}
-use Rattle.azimuthal_forward.specs.Steps.{forwardPoint}
-use Rattle.integers.proofs.Greatest.{both}
-use Rattle.azimuthal_forward.proofs.ForwardLaws.{forward-of-accepted}
-use Rattle.points.specs.declared.pairs.PlanePairAnswer.the-variants.{Refused}
-use Rattle.points.specs.Points.{forwardPair, onGlobe, latitudeMas, longitudeMas, inMetres}
-use Rattle.points.proofs.PairLaws.{not-finite, beyond-limits, tests-passed}
+use Rattle.points.specs.Pairs.{areFinite, withinGlobe, latitudeMas, longitudeMas, inMetres}
+use Rattle.points.proofs.AnswerLaws.{forward-not-finite, forward-beyond, forward-converted}
 use Rattle.points.proofs.single.forward_pair.Statement.{statement}
 use Rattle.points.proofs.single.forward_pair.Tie as tie
 
@@ -22,25 +20,35 @@ are-finite-requires : tie.Need-are-finite-requires
 are-finite-requires c κs = search needs
 
 returns : tie.Need-returns
-unfolding forwardPair
 returns c =
-    let p = c .before .before .args .p in
-    let at = c .before .before .args .at in
-    not-finite Refused (inMetres (forwardOf p (latitudeMas at) (longitudeMas at))) (c .before .are-finite .ensures) (onGlobe at) (c .if1 .taken)
+    let start = c .before .before in
+    sym (forward-not-finite (start .args .p) (start .args .at) (start .pre .accepted)
+    (sym (c .before .are-finite .ensures) ∙ not-true (c .before .are-finite .result) (c .if1 .taken)))
 
-is-on-globe-requires : tie.Need-is-on-globe-requires
-is-on-globe-requires c κs = search needs
+is-within-globe-requires : tie.Need-is-within-globe-requires
+is-within-globe-requires c κs = search needs
+
+finite : (c : tie.Else1) → areFinite (c .before .before .args .at .latitude) (c .before .before .args .at .longitude) ≡ true
+finite c = sym (c .before .are-finite .ensures) ∙ not-false (c .before .are-finite .result) (c .if1 .left)
 
 returns-2 : tie.Need-returns-2
-unfolding forwardPair
 returns-2 c =
-    beyond-limits Refused _ (c .before .before .before .are-finite .ensures) (c .before .is-on-globe .ensures) (c .before .before .if1 .left) (c .if2 .taken)
+    let start = c .before .before .before .before in
+    sym (forward-beyond (start .args .p) (start .args .at) (start .pre .accepted) (finite (c .before .before))
+    (sym (c .before .is-within-globe .ensures) ∙ not-true (c .before .is-within-globe .result) (c .if2 .taken)))
 
 -- both coordinates are within their limits
-within-limits : (c : tie.Else2) → (within latitudeLimit (c .before .before .before .before .args .at .latitude) ≡ true) × (within longitudeLimit (c .before .before .before .before .args .at .longitude) ≡ true)
-unfolding onGlobe
-within-limits c =
-    both _ _ (sym (c .before .is-on-globe .ensures) ∙ not-false (c .before .is-on-globe .result) (c .if2 .left))
+abbrev start : tie.Else2 → tie.Start
+start c = c .before .before .before .before
+
+inside : (c : tie.Else2) → withinGlobe (start c .args .at) ≡ true
+inside c = sym (c .before .is-within-globe .ensures) ∙ not-false (c .before .is-within-globe .result) (c .if2 .left)
+
+within-limits :
+    (c : tie.Else2) →
+    (withinLimit latitudeLimit (start c .args .at .latitude) ≡ true) × (withinLimit longitudeLimit (start c .args .at .longitude) ≡ true)
+unfolding withinGlobe
+within-limits c = both _ _ (inside c)
 
 degrees-to-mas-requires : tie.Need-degrees-to-mas-requires
 degrees-to-mas-requires c κs = latitude-is-longitude _ (within-limits c .0)
@@ -58,15 +66,17 @@ abbrev geodetic : ℤ → Geodetic
 geodetic φ = record { 0 = φ }
 
 returns-3 : tie.Need-returns-3
-unfolding forwardPair latitudeMas longitudeMas
+unfolding latitudeMas longitudeMas
 returns-3 c =
-    let start = c .before .before .before .before .before .before .before .before in
     let known = c .before .before .before .before in
+    let s = start known in
+    let latitude = c .before .before .before .degrees-to-mas in
+    let longitude = c .before .before .degrees-to-mas2 in
     c .in-metres .ensures
-    ∙ ap inMetres (c .before .forward-point .ensures ∙ ap₂ (forwardPoint (start .args .p)) (ap geodetic (returned (c .before .before .before .degrees-to-mas .ok) ∙ c .before .before .before .degrees-to-mas .ensures))
-    (returned (c .before .before .degrees-to-mas2 .ok) ∙ c .before .before .degrees-to-mas2 .ensures))
-    ∙ ap inMetres (sym (forward-of-accepted (start .args .p) (latitudeMas (start .args .at)) (longitudeMas (start .args .at)) (start .pre .1)))
-    ∙ tests-passed Refused _ (known .before .before .before .are-finite .ensures) (known .before .is-on-globe .ensures) (known .before .before .if1 .left) (known .if2 .left)
+    ∙ ap inMetres
+    (c .before .forward-point .ensures
+    ∙ ap₂ (forwardOf (s .args .p)) (ap geodetic (returned (latitude .ok) ∙ latitude .ensures)) (returned (longitude .ok) ∙ longitude .ensures))
+    ∙ sym (forward-converted (s .args .p) (s .args .at) (s .pre .accepted) (finite (known .before .before)) (inside known))
 
 pub forward-pair-spec : {M : Type 1} → statement M
 forward-pair-spec =
@@ -74,7 +84,7 @@ forward-pair-spec =
     (tie.spec
     are-finite-requires
     returns
-    is-on-globe-requires
+    is-within-globe-requires
     returns-2
     degrees-to-mas-requires
     degrees-to-mas-requires-2

@@ -1,17 +1,15 @@
--- `single::inverse_pair` meets its contract: 2, then 3, then the whole-unit answer. Assumes nothing.
+-- `inverse_pair` meets its contract: 2, then 3; a pair that passes both rounds to a position on the plane, and its answer is the whole-unit
+-- one in degrees. Assumes nothing.
 use borrow.Author.Needs.{needs}
-use borrow.Author.Tests.{not-false}
+use borrow.Author.Tests.{not-true, not-false}
 use mathlib.Core.Path.{_≡_, sym, ap, ap₂, _∙_}
 use mathlib.Core.Bool.{true}
 use Rattle.proof_kit.proofs.Range.{returned}
-use Rattle.floats.specs.Limits.{within, planeLimit}
-use Rattle.azimuthal_inverse.specs.Answer.{inverseOf}
-use Rattle.azimuthal_inverse.specs.Steps.{inversePoint}
 use Rattle.integers.proofs.Greatest.{both}
-use Rattle.azimuthal_inverse.proofs.InverseLaws.{inverse-of-accepted}
-use Rattle.points.specs.declared.pairs.GeodeticPairAnswer.the-variants.{Refused as NotFound}
-use Rattle.points.specs.Points.{inversePair, onPlane, eastingCm, northingCm, inDegrees}
-use Rattle.points.proofs.PairLaws.{not-finite, beyond-limits, tests-passed}
+use Rattle.floats.specs.Limits.{withinLimit, planeLimit}
+use Rattle.azimuthal_inverse.specs.Answer.{inverseOf}
+use Rattle.points.specs.Pairs.{areFinite, withinPlane, eastingCm, northingCm, inDegrees}
+use Rattle.points.proofs.AnswerLaws.{inverse-not-finite, inverse-beyond, inverse-converted}
 use Rattle.points.proofs.single.inverse_pair.Statement.{statement}
 use Rattle.points.proofs.single.inverse_pair.Tie as tie
 
@@ -19,25 +17,35 @@ are-finite-requires : tie.Need-are-finite-requires
 are-finite-requires c κs = search needs
 
 returns : tie.Need-returns
-unfolding inversePair
 returns c =
-    let p = c .before .before .args .p in
-    let at = c .before .before .args .at in
-    not-finite NotFound (inDegrees (inverseOf p (eastingCm at) (northingCm at))) (c .before .are-finite .ensures) (onPlane at) (c .if1 .taken)
+    let start = c .before .before in
+    sym (inverse-not-finite (start .args .p) (start .args .at) (start .pre .accepted)
+    (sym (c .before .are-finite .ensures) ∙ not-true (c .before .are-finite .result) (c .if1 .taken)))
 
-is-on-plane-requires : tie.Need-is-on-plane-requires
-is-on-plane-requires c κs = search needs
+is-within-plane-requires : tie.Need-is-within-plane-requires
+is-within-plane-requires c κs = search needs
+
+finite : (c : tie.Else1) → areFinite (c .before .before .args .at .first) (c .before .before .args .at .second) ≡ true
+finite c = sym (c .before .are-finite .ensures) ∙ not-false (c .before .are-finite .result) (c .if1 .left)
 
 returns-2 : tie.Need-returns-2
-unfolding inversePair
 returns-2 c =
-    beyond-limits NotFound _ (c .before .before .before .are-finite .ensures) (c .before .is-on-plane .ensures) (c .before .before .if1 .left) (c .if2 .taken)
+    let start = c .before .before .before .before in
+    sym (inverse-beyond (start .args .p) (start .args .at) (start .pre .accepted) (finite (c .before .before))
+    (sym (c .before .is-within-plane .ensures) ∙ not-true (c .before .is-within-plane .result) (c .if2 .taken)))
 
 -- both coordinates are within their limits
-within-limits : (c : tie.Else2) → (within planeLimit (c .before .before .before .before .args .at .first) ≡ true) × (within planeLimit (c .before .before .before .before .args .at .second) ≡ true)
-unfolding onPlane
-within-limits c =
-    both _ _ (sym (c .before .is-on-plane .ensures) ∙ not-false (c .before .is-on-plane .result) (c .if2 .left))
+abbrev start : tie.Else2 → tie.Start
+start c = c .before .before .before .before
+
+inside : (c : tie.Else2) → withinPlane (start c .args .at) ≡ true
+inside c = sym (c .before .is-within-plane .ensures) ∙ not-false (c .before .is-within-plane .result) (c .if2 .left)
+
+within-limits :
+    (c : tie.Else2) →
+    (withinLimit planeLimit (start c .args .at .first) ≡ true) × (withinLimit planeLimit (start c .args .at .second) ≡ true)
+unfolding withinPlane
+within-limits c = both _ _ (inside c)
 
 metres-to-cm-requires : tie.Need-metres-to-cm-requires
 metres-to-cm-requires c κs = within-limits c .0
@@ -52,15 +60,17 @@ in-degrees-requires : tie.Need-in-degrees-requires
 in-degrees-requires c κs = search needs
 
 returns-3 : tie.Need-returns-3
-unfolding inversePair eastingCm northingCm
+unfolding eastingCm northingCm
 returns-3 c =
-    let start = c .before .before .before .before .before .before .before .before in
     let known = c .before .before .before .before in
+    let s = start known in
+    let easting = c .before .before .before .metres-to-cm in
+    let northing = c .before .before .metres-to-cm2 in
     c .in-degrees .ensures
-    ∙ ap inDegrees (c .before .inverse-point .ensures ∙ ap₂ (inversePoint (start .args .p)) (returned (c .before .before .before .metres-to-cm .ok) ∙ c .before .before .before .metres-to-cm .ensures)
-    (returned (c .before .before .metres-to-cm2 .ok) ∙ c .before .before .metres-to-cm2 .ensures))
-    ∙ ap inDegrees (sym (inverse-of-accepted (start .args .p) (eastingCm (start .args .at)) (northingCm (start .args .at)) (start .pre .1)))
-    ∙ tests-passed NotFound _ (known .before .before .before .are-finite .ensures) (known .before .is-on-plane .ensures) (known .before .before .if1 .left) (known .if2 .left)
+    ∙ ap inDegrees
+    (c .before .inverse-point .ensures
+    ∙ ap₂ (inverseOf (s .args .p)) (returned (easting .ok) ∙ easting .ensures) (returned (northing .ok) ∙ northing .ensures))
+    ∙ sym (inverse-converted (s .args .p) (s .args .at) (s .pre .accepted) (finite (known .before .before)) (inside known))
 
 pub inverse-pair-spec : {M : Type 1} → statement M
 inverse-pair-spec =
@@ -68,7 +78,7 @@ inverse-pair-spec =
     (tie.spec
     are-finite-requires
     returns
-    is-on-plane-requires
+    is-within-plane-requires
     returns-2
     metres-to-cm-requires
     metres-to-cm-requires-2

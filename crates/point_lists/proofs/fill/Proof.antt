@@ -5,11 +5,11 @@ use native.Mathlib.Nat.{le-antisymm}
 use native.Mathlib.Omega.{arith}
 use lib.Ieee.{Float, nan}
 use lib.ListN.{length}
-use Rattle.points.specs.declared.pairs.Marked.{Marked}
-use Rattle.points.specs.Lists.{rowOf, rows, firsts as firstsOf, seconds as secondsOf, marks as marksOf}
-use Rattle.points.proofs.ListLaws.{filled, Filling, kept-length, room-left, stored, finished}
-use Rattle.points.proofs.lists.fill.Statement.{statement}
-use Rattle.points.proofs.lists.fill.Tie as tie
+use Rattle.points.specs.declared.pairs.Row.{Row}
+use Rattle.point_lists.specs.Lists.{rowOf, rows, firstValues as firstsOf, secondValues as secondsOf, marks as marksOf}
+use Rattle.point_lists.proofs.ListLaws.{filled, Filling, kept-length, room-left, stored, finished}
+use Rattle.point_lists.proofs.fill.Statement.{statement}
+use Rattle.point_lists.proofs.fill.Tie as tie
 
 abbrev Inv-loop : tie.InvT-loop
 Inv-loop t p k forward xs ys firsts₀ seconds₀ marks₀ i₀ firsts seconds marks i =
@@ -21,13 +21,13 @@ Inv-loop t p k forward xs ys firsts₀ seconds₀ marks₀ i₀ firsts seconds m
 abbrev μ-loop : tie.MeasureT-loop
 μ-loop t p k forward xs ys firsts₀ seconds₀ marks₀ i₀ firsts seconds marks i = length xs - i
 
-abbrev first-of : Marked → Float
+abbrev first-of : Row → Float
 first-of r = r .first
 
-abbrev second-of : Marked → Float
+abbrev second-of : Row → Float
 second-of r = r .second
 
-abbrev mark-of : Marked → ℕ
+abbrev mark-of : Row → ℕ
 mark-of r = r .mark
 
 loop-holds : tie.Need-loop-holds Inv-loop μ-loop

@@ -1,12 +1,12 @@
 // Lists of points: degrees to metres and back. Each call lends two inputs, two outputs and a list
 // of marks.
-use crate::pairs::GeodeticPair;
-use crate::pairs::GeodeticPairAnswer;
-use crate::pairs::Marked;
-use crate::pairs::PlanePair;
-use crate::pairs::PlanePairAnswer;
-use crate::single::forward_pair;
-use crate::single::inverse_pair;
+use points::pairs::GeodeticPair;
+use points::pairs::GeodeticPairAnswer;
+use points::pairs::Row;
+use points::pairs::PlanePair;
+use points::pairs::PlanePairAnswer;
+use points::single::forward_pair;
+use points::single::inverse_pair;
 use constants::Constants;
 use constants::constants_of;
 use parameters::Parameters;
@@ -16,8 +16,8 @@ ghost use lib.ListN.{length};
 ghost use Rattle.sine_table.specs.Table.{IsTable};
 ghost use Rattle.parameters.specs.ParameterSet.{setRefusal};
 ghost use Rattle.constants.specs.Derived.{constantsOf};
-ghost use Rattle.points.specs.Told.{plane-marked, geodetic-marked};
-ghost use Rattle.points.specs.Lists.{rowOf, rows, firsts as firstsOf, seconds as secondsOf, marks as marksOf, lengthRefusal, zeros, forwardRow, inverseRow, ListCall};
+ghost use Rattle.points.specs.Pairs.{plane-row, geodetic-row, forwardRow, inverseRow};
+ghost use Rattle.point_lists.specs.Lists.{rowOf, rows, firstValues as firstsOf, secondValues as secondsOf, marks as marksOf, lengthRefusal, zeros, ListCall};
 
 // The count of the marks that are 0, or the refusal number alone.
 pub enum ListAnswer {
@@ -49,7 +49,7 @@ fn length_refusal(a: usize, b: usize, c: usize, d: usize, e: usize) -> u8
 
 // An answer as a list holds it.
 fn plane_marked(answer: PlanePairAnswer) -> Marked
-    ensures { λ r. ⌜ r ≡ plane-marked answer ⌝ }
+    ensures { λ r. ⌜ r ≡ plane-row answer ⌝ }
 {
     match answer {
         PlanePairAnswer::Metres(pair) => Marked {
@@ -67,7 +67,7 @@ fn plane_marked(answer: PlanePairAnswer) -> Marked
 
 // An answer as a list holds it.
 fn geodetic_marked(answer: GeodeticPairAnswer) -> Marked
-    ensures { λ r. ⌜ r ≡ geodetic-marked answer ⌝ }
+    ensures { λ r. ⌜ r ≡ geodetic-row answer ⌝ }
 {
     match answer {
         GeodeticPairAnswer::Degrees(pair) => Marked {

@@ -1,8 +1,8 @@
 -- `lists::length_refusal` meets its contract: the tests are those of the definition, one after the other. Assumes nothing.
 use borrow.Author.Tests.{eq-eqb, ne-eqb, le-leb, lt-leb}
-use Rattle.points.specs.Lists.{lengthRefusal}
-use Rattle.points.proofs.lists.length_refusal.Statement.{statement}
-use Rattle.points.proofs.lists.length_refusal.Tie as tie
+use Rattle.point_lists.specs.Lists.{lengthRefusal}
+use Rattle.point_lists.proofs.length_refusal.Statement.{statement}
+use Rattle.point_lists.proofs.length_refusal.Tie as tie
 
 returns : tie.Need-returns
 unfolding lengthRefusal

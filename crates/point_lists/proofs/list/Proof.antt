@@ -4,10 +4,10 @@ use mathlib.Core.Path.{_≡_, sym, _∙_}
 use lib.ListN.{length}
 use denote.Ref.{now}
 use Rattle.parameters.specs.ParameterSet.{setRefusal}
-use Rattle.points.specs.Lists.{lengthRefusal}
-use Rattle.points.proofs.ListedLaws.{equal-lengths, refused-by-lengths, refused-by-set, listed-refused, listed-count}
-use Rattle.points.proofs.lists.list.Statement.{statement}
-use Rattle.points.proofs.lists.list.Tie as tie
+use Rattle.point_lists.specs.Lists.{lengthRefusal}
+use Rattle.point_lists.proofs.ListedLaws.{equal-lengths, refused-by-lengths, refused-by-set, listed-refused, listed-count}
+use Rattle.point_lists.proofs.list.Statement.{statement}
+use Rattle.point_lists.proofs.list.Tie as tie
 
 length-refusal-requires : tie.Need-length-refusal-requires
 length-refusal-requires c κs = search needs

@@ -9,13 +9,12 @@ use lib.ListN.{length}
 use Rattle.parameters.specs.declared.Parameters.{Parameters}
 use Rattle.units.specs.Refusals.{unless, firstOf}
 use Rattle.parameters.specs.ParameterSet.{setRefusal}
 use Rattle.points.specs.declared.pairs.GeodeticPair.{GeodeticPair}
 use Rattle.points.specs.declared.pairs.PlanePair.{PlanePair}
-use Rattle.points.specs.declared.pairs.Marked.{Marked}
-use Rattle.points.specs.declared.lists.ListAnswer.{ListAnswer}
-use Rattle.points.specs.declared.lists.ListAnswer.the-variants.{Count, Refused}
-use Rattle.points.specs.Points.{forwardPair, inversePair}
-use Rattle.points.specs.Told.{plane-marked, geodetic-marked}
+use Rattle.points.specs.declared.pairs.Row.{Row}
+use Rattle.point_lists.specs.declared.ListAnswer.{ListAnswer}
+use Rattle.point_lists.specs.declared.ListAnswer.the-variants.{Count, Refused}
+use Rattle.points.specs.Pairs.{forwardPair, inversePair, plane-row, geodetic-row}
 
 abbrev pub degrees : Float → Float → GeodeticPair
 degrees latitude longitude = record { latitude = latitude; longitude = longitude }
@@ -24,30 +23,30 @@ abbrev pub metres : Float → Float → PlanePair
 metres first second = record { first = first; second = second }
 
 -- a point of a list: its answer and mark 0, or 0.0, 0.0 and its number; forward or back
-unfoldable pub forwardRow : Parameters → Float → Float → Marked
-forwardRow p latitude longitude = plane-marked (forwardPair p (degrees latitude longitude))
+unfoldable pub forwardRow : Parameters → Float → Float → Row
+forwardRow p latitude longitude = plane-row (forwardPair p (degrees latitude longitude))
 
-unfoldable pub inverseRow : Parameters → Float → Float → Marked
-inverseRow p first second = geodetic-marked (inversePair p (metres first second))
+unfoldable pub inverseRow : Parameters → Float → Float → Row
+inverseRow p first second = geodetic-row (inversePair p (metres first second))
 
-abbrev pub rowOf : Bool → Parameters → Float → Float → Marked
+abbrev pub rowOf : Bool → Parameters → Float → Float → Row
 rowOf true = forwardRow
 rowOf false = inverseRow
 
 -- the points of two lists, at each index
-abbrev pub rows : (Float → Float → Marked) → List Float → List Float → List Marked
+abbrev pub rows : (Float → Float → Row) → List Float → List Float → List Row
 rows row [] ys = []
 rows row (x ∷ xs) [] = []
 rows row (x ∷ xs) (y ∷ ys) = row x y ∷ rows row xs ys
 
-abbrev pub firsts : List Marked → List Float
-firsts = map (λ (r : Marked). r .first)
+abbrev pub firsts : List Row → List Float
+firsts = map (λ (r : Row). r .first)
 
-abbrev pub seconds : List Marked → List Float
-seconds = map (λ (r : Marked). r .second)
+abbrev pub seconds : List Row → List Float
+seconds = map (λ (r : Row). r .second)
 
-abbrev pub marks : List Marked → List ℕ
-marks = map (λ (r : Marked). r .mark)
+abbrev pub marks : List Row → List ℕ
+marks = map (λ (r : Row). r .mark)
 
 -- 5: "lent lists of unequal length"; 6: "lists longer than 4,096"
 unfoldable pub lengthRefusal : ℕ → ℕ → ℕ → ℕ → ℕ → ℕ
@@ -89,7 +88,7 @@ counted zero count = record { refusal = 0; count = count }
 counted (suc n) count = record { refusal = suc n; count = 0 }
 
 -- The lists lent for writing, before and after a call with this refusal on these points, and its answer.
-pub record Listed (refusal : ℕ) (points : List Marked) (first first′ second second′ : List Float) (mark mark′ : List ℕ) (answer : ListAnswer) : Type 0 where
+pub record Listed (refusal : ℕ) (points : List Row) (first first′ second second′ : List Float) (mark mark′ : List ℕ) (answer : ListAnswer) : Type 0 where
   pub firsts-are : first′ ≡ written refusal (firsts points) first
   pub seconds-are : second′ ≡ written refusal (seconds points) second
   pub marks-are : mark′ ≡ written refusal (marks points) mark
@@ -99,7 +98,7 @@ pub record Listed (refusal : ℕ) (points : List Marked) (first first′ second 
 -- a call that works out each point by `row`
 abbrev pub ListCall :
     Parameters →
-    (Float → Float → Marked) →
+    (Float → Float → Row) →
     (xs ys first first′ second second′ : List Float) (mark mark′ : List ℕ) → ListAnswer → Type 0
 ListCall p row xs ys first first′ second second′ mark mark′ answer =
     Listed (listRefusal p xs ys first second mark) (rows row xs ys) first first′ second second′ mark mark′ answer

@@ -12,9 +12,9 @@ use Rattle.parameters.specs.declared.Parameters.{Parameters}
 use Rattle.units.specs.Refusals.{unless, firstOf}
 use Rattle.parameters.specs.ParameterSet.{setRefusal}
 use Rattle.integers.proofs.Greatest.{both}
-use Rattle.points.specs.declared.pairs.Marked.{Marked}
-use Rattle.points.specs.declared.lists.ListAnswer.the-variants.{Count, Refused}
-use Rattle.points.specs.Lists.{firsts, seconds, marks, lengthRefusal, listRefusal, zeros, Listed}
+use Rattle.points.specs.declared.pairs.Row.{Row}
+use Rattle.point_lists.specs.declared.ListAnswer.the-variants.{Count, Refused}
+use Rattle.point_lists.specs.Lists.{firstValues, secondValues, marks, lengthRefusal, listRefusal, zeros, Listed}
 
 -- 5 comes first, so without refusal the lengths are equal
 passed : (t : Bool) (n : ℕ) → unless t 5 n ≡ 0 → t ≡ true
@@ -43,7 +43,7 @@ module _ (p : Parameters) (xs ys first second : List Float) (mark : List ℕ) (n
   unfolding listRefusal
   refused-by-set none e = rw none e
 
-module _ {refusal : ℕ} {points : List Marked} {first second : List Float} {mark : List ℕ} where
+module _ {refusal : ℕ} {points : List Row} {first second : List Float} {mark : List ℕ} where
   -- a refused call
   pub listed-refused : (n : ℕ) → (n ≡ 0 → ⊥) → n ≡ refusal → Listed refusal points first first second second mark mark (Refused n)
   listed-refused zero some e = absurd (some refl)
@@ -51,6 +51,6 @@ module _ {refusal : ℕ} {points : List Marked} {first second : List Float} {mar
       rw (sym e) (record { firsts-are = refl; seconds-are = refl; marks-are = refl; answer-is = refl; answer-tells = refl })
 
   -- a call without refusal
-  pub listed-count : {first′ second′ : List Float} {mark′ : List ℕ} (count : ℕ) → 0 ≡ refusal → first′ ≡ firsts points → second′ ≡ seconds points → mark′ ≡ marks points → count ≡ zeros mark′ → Listed refusal points first first′ second second′ mark mark′ (Count count)
+  pub listed-count : {first′ second′ : List Float} {mark′ : List ℕ} (count : ℕ) → 0 ≡ refusal → first′ ≡ firstValues points → second′ ≡ secondValues points → mark′ ≡ marks points → count ≡ zeros mark′ → Listed refusal points first first′ second second′ mark mark′ (Count count)
   listed-count count none f s m c =
       rw (sym none) (record { firsts-are = f; seconds-are = s; marks-are = m; answer-is = ap Count c; answer-tells = rw c })

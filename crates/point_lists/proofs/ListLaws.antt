@@ -7,8 +7,8 @@ use native.Mathlib.Numerals.{add-one}
 use native.Mathlib.Omega.{arith}
 use lib.Ieee.{Float, nan}
 use lib.ListN.{length, getD, set, take, drop}
-use Rattle.points.specs.declared.pairs.Marked.{Marked}
-use Rattle.points.specs.Lists.{rows, zeros}
+use Rattle.points.specs.declared.pairs.Row.{Row}
+use Rattle.point_lists.specs.Lists.{rows, zeros}
 
 -- after i stores, from the front, of the elements of `new` into a list
 module _ {A : Type 0} where
@@ -48,7 +48,7 @@ module _ {A : Type 0} where
       ap (λ (t : List A). x ∷ t) (filled-all new old f)
 
 -- a column of the points of two lists
-module _ {A : Type 0} (column : Marked → A) (row : Float → Float → Marked) where
+module _ {A : Type 0} (column : Row → A) (row : Float → Float → Row) where
   pub column-length : (xs ys : List Float) → length ys ≡ length xs → length (map column (rows row xs ys)) ≡ length xs
   column-length [] ys e = refl
   column-length (x ∷ xs) [] e = let z : ⊥ = omega (arith, e) in absurd z
@@ -62,12 +62,12 @@ module _ {A : Type 0} (column : Marked → A) (row : Float → Float → Marked)
       let f : length ys ≡ length xs = omega (arith, e) in column-at xs ys i d x₀ y₀ f (le-of-suc-le-suc l)
 
 -- A lent list: `now` once the first i points of two lists were stored into `old`, all of one length.
-pub record Filling {A : Type 0} (column : Marked → A) (row : Float → Float → Marked) (xs ys : List Float) (old now : List A) (i : ℕ) : Type 0 where
+pub record Filling {A : Type 0} (column : Row → A) (row : Float → Float → Row) (xs ys : List Float) (old now : List A) (i : ℕ) : Type 0 where
   pub equal : length ys ≡ length xs
   pub room : length old ≡ length xs
   pub so-far : now ≡ filled i (map column (rows row xs ys)) old
 
-module _ {A : Type 0} {column : Marked → A} {row : Float → Float → Marked} {xs ys : List Float} {old now : List A} {i : ℕ} (f : Filling column row xs ys old now i) where
+module _ {A : Type 0} {column : Row → A} {row : Float → Float → Row} {xs ys : List Float} {old now : List A} {i : ℕ} (f : Filling column row xs ys old now i) where
   same-room : length (map column (rows row xs ys)) ≡ length old
   same-room = column-length column row xs ys (f .equal) ∙ sym (f .room)
 
@@ -77,7 +77,7 @@ module _ {A : Type 0} {column : Marked → A} {row : Float → Float → Marked}
   pub room-left : i < length xs → i < length now
   room-left l = omega (arith, kept-length, f .room)
 
-  pub stored : (d : A) (r : Marked) → i < length xs → r ≡ row (getD xs i nan) (getD ys i nan) → set now i (column r) ≡ filled (i + 1) (map column (rows row xs ys)) old
+  pub stored : (d : A) (r : Row) → i < length xs → r ≡ row (getD xs i nan) (getD ys i nan) → set now i (column r) ≡ filled (i + 1) (map column (rows row xs ys)) old
   stored d r l e =
       let inside : i < length old = omega (arith, f .room) in
       filled-more i (map column (rows row xs ys)) old now d (column r) same-room inside (f .so-far)
