@@ -9,22 +9,19 @@ use lib.Dec.{eqb, leb}
 use lib.Ieee.{Float}
 use lib.ListN.{length}
 use Rattle.parameters.specs.declared.Parameters.{Parameters}
-use Rattle.units.specs.Refusals.{unless, firstOf}
+use Rattle.units.specs.Refusals.{firstOf}
+use Rattle.units.proofs.Chains.{link-passed}
 use Rattle.parameters.specs.ParameterSet.{setRefusal}
 use Rattle.integers.proofs.Greatest.{both}
 use Rattle.points.specs.declared.pairs.Row.{Row}
 use Rattle.point_lists.specs.declared.ListAnswer.the-variants.{Count, Refused}
-use Rattle.point_lists.specs.Lists.{firstValues, secondValues, marks, lengthRefusal, listRefusal, zeros, Listed}
+use Rattle.point_lists.specs.Lists.{firstValues, secondValues, marks, longest, lengthRefusal, listRefusal, zeros, Listed}
 
 -- 5 comes first, so without refusal the lengths are equal
-passed : (t : Bool) (n : ℕ) → unless t 5 n ≡ 0 → t ≡ true
-passed true n e = refl
-passed false n e = let z : ⊥ = omega (arith, e) in absurd z
-
 pub equal-lengths : (a b c d e : ℕ) → lengthRefusal a b c d e ≡ 0 → (b ≡ a) × (c ≡ a) × (d ≡ a) × (e ≡ a)
 unfolding lengthRefusal
 equal-lengths a b c d e h =
-    let all = both (eqb b a) (eqb c a && (eqb d a && eqb e a)) (passed (eqb b a && (eqb c a && (eqb d a && eqb e a))) (unless (leb a 4096) 6 0) h) in
+    let all = both (eqb b a) (eqb c a && (eqb d a && eqb e a)) (link-passed (eqb b a && (eqb c a && (eqb d a && eqb e a))) 4 h .0) in
     let rest = both (eqb c a) (eqb d a && eqb e a) (all .1) in
     let last = both (eqb d a) (eqb e a) (rest .1) in
     (eqb-true b a (all .0), eqb-true c a (rest .0), eqb-true d a (last .0), eqb-true e a (last .1))
@@ -48,9 +45,9 @@ module _ {refusal : ℕ} {points : List Row} {first second : List Float} {mark :
   pub listed-refused : (n : ℕ) → (n ≡ 0 → ⊥) → n ≡ refusal → Listed refusal points first first second second mark mark (Refused n)
   listed-refused zero some e = absurd (some refl)
   listed-refused (suc n) some e =
-      rw (sym e) (record { firsts-are = refl; seconds-are = refl; marks-are = refl; answer-is = refl; answer-tells = refl })
+      rw (sym e) (record { first-are = refl; second-are = refl; marks-are = refl; answer-is = refl; answer-tells = refl })
 
   -- a call without refusal
   pub listed-count : {first′ second′ : List Float} {mark′ : List ℕ} (count : ℕ) → 0 ≡ refusal → first′ ≡ firstValues points → second′ ≡ secondValues points → mark′ ≡ marks points → count ≡ zeros mark′ → Listed refusal points first first′ second second′ mark mark′ (Count count)
   listed-count count none f s m c =
-      rw (sym none) (record { firsts-are = f; seconds-are = s; marks-are = m; answer-is = ap Count c; answer-tells = rw c })
+      rw (sym none) (record { first-are = f; second-are = s; marks-are = m; answer-is = ap Count c; answer-tells = rw c })

@@ -6,32 +6,22 @@ use mathlib.Core.List.{List, [], _∷_, map}
 use lib.Dec.{eqb, leb}
 use lib.Ieee.{Float}
 use lib.ListN.{length}
+use Rattle.units.specs.Refusals.{unequal-lists, long-lists, unless, firstOf}
 use Rattle.parameters.specs.declared.Parameters.{Parameters}
-use Rattle.units.specs.Refusals.{unless, firstOf}
 use Rattle.parameters.specs.ParameterSet.{setRefusal}
-use Rattle.points.specs.declared.pairs.GeodeticPair.{GeodeticPair}
-use Rattle.points.specs.declared.pairs.PlanePair.{PlanePair}
 use Rattle.points.specs.declared.pairs.Row.{Row}
+use Rattle.points.specs.Pairs.{degrees, metres, forwardRow, inverseRow}
 use Rattle.point_lists.specs.declared.ListAnswer.{ListAnswer}
 use Rattle.point_lists.specs.declared.ListAnswer.the-variants.{Count, Refused}
-use Rattle.points.specs.Pairs.{forwardPair, inversePair, plane-row, geodetic-row}
 
-abbrev pub degrees : Float → Float → GeodeticPair
-degrees latitude longitude = record { latitude = latitude; longitude = longitude }
+-- "lists longer than 4,096"
+abbrev pub longest : ℕ
+longest = 4_096
 
-abbrev pub metres : Float → Float → PlanePair
-metres first second = record { first = first; second = second }
-
--- a point of a list: its answer and mark 0, or 0.0, 0.0 and its number; forward or back
-unfoldable pub forwardRow : Parameters → Float → Float → Row
-forwardRow p latitude longitude = plane-row (forwardPair p (degrees latitude longitude))
-
-unfoldable pub inverseRow : Parameters → Float → Float → Row
-inverseRow p first second = geodetic-row (inversePair p (metres first second))
-
+-- a point of a list, from degrees to metres or back: what the single call tells of it
 abbrev pub rowOf : Bool → Parameters → Float → Float → Row
-rowOf true = forwardRow
-rowOf false = inverseRow
+rowOf true p latitude longitude = forwardRow p (degrees latitude longitude)
+rowOf false p first second = inverseRow p (metres first second)
 
 -- the points of two lists, at each index
 abbrev pub rows : (Float → Float → Row) → List Float → List Float → List Row
@@ -39,11 +29,11 @@ rows row [] ys = []
 rows row (x ∷ xs) [] = []
 rows row (x ∷ xs) (y ∷ ys) = row x y ∷ rows row xs ys
 
-abbrev pub firsts : List Row → List Float
-firsts = map (λ (r : Row). r .first)
+abbrev pub firstValues : List Row → List Float
+firstValues = map (λ (r : Row). r .first)
 
-abbrev pub seconds : List Row → List Float
-seconds = map (λ (r : Row). r .second)
+abbrev pub secondValues : List Row → List Float
+secondValues = map (λ (r : Row). r .second)
 
 abbrev pub marks : List Row → List ℕ
 marks = map (λ (r : Row). r .mark)
@@ -51,7 +41,7 @@ marks = map (λ (r : Row). r .mark)
 -- 5: "lent lists of unequal length"; 6: "lists longer than 4,096"
 unfoldable pub lengthRefusal : ℕ → ℕ → ℕ → ℕ → ℕ → ℕ
 lengthRefusal a b c d e =
-    unless (eqb b a && (eqb c a && (eqb d a && eqb e a))) 5 (unless (leb a 4096) 6 0)
+    unless (eqb b a && (eqb c a && (eqb d a && eqb e a))) unequal-lists (unless (leb a longest) long-lists 0)
 
 -- "Order: lists 5, 6, 1", for two inputs, two outputs and the marks
 unfoldable pub listRefusal : Parameters → List Float → List Float → List Float → List Float → List ℕ → ℕ
@@ -88,9 +78,10 @@ counted zero count = record { refusal = 0; count = count }
 counted (suc n) count = record { refusal = suc n; count = 0 }
 
 -- The lists lent for writing, before and after a call with this refusal on these points, and its answer.
-pub record Listed (refusal : ℕ) (points : List Row) (first first′ second second′ : List Float) (mark mark′ : List ℕ) (answer : ListAnswer) : Type 0 where
-  pub firsts-are : first′ ≡ written refusal (firsts points) first
-  pub seconds-are : second′ ≡ written refusal (seconds points) second
+pub record Listed (refusal : ℕ) (points : List Row) (first first′ second second′ : List Float) (mark mark′ : List ℕ) (answer : ListAnswer)
+    : Type 0 where
+  pub first-are : first′ ≡ written refusal (firstValues points) first
+  pub second-are : second′ ≡ written refusal (secondValues points) second
   pub marks-are : mark′ ≡ written refusal (marks points) mark
   pub answer-is : answer ≡ listAnswer refusal (zeros mark′)
   pub answer-tells : list-told answer ≡ counted refusal (zeros mark′)

@@ -1,4 +1,4 @@
--- `lists::count_zeros` meets its contract. The invariant: the zeros passed and those still to come are all of them. Assumes nothing.
+-- `count_zeros` meets its contract. The invariant: the zeros passed and those still to come are all of them. Assumes nothing.
 use mathlib.Core.Path.{_≡_, ap, _∙_}
 use mathlib.Core.Logic.{⊎-elim}
 use Prim.Native.Nat.{ℕ, _≤_, _+_, _-_}

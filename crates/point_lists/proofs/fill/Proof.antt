@@ -1,4 +1,4 @@
--- `lists::fill` meets its contract. The invariant: up to i each of the three lists has the points, and from i on what it had. Assumes nothing.
+-- `fill` meets its contract. The invariant: up to i each of the three lists has the points, and from i on what it had. Assumes nothing.
 use mathlib.Core.Path.{_≡_, refl}
 use Prim.Native.Nat.{ℕ, _≤_, _-_}
 use native.Mathlib.Nat.{le-antisymm}
@@ -6,20 +6,20 @@ use native.Mathlib.Omega.{arith}
 use lib.Ieee.{Float, nan}
 use lib.ListN.{length}
 use Rattle.points.specs.declared.pairs.Row.{Row}
-use Rattle.point_lists.specs.Lists.{rowOf, rows, firstValues as firstsOf, secondValues as secondsOf, marks as marksOf}
+use Rattle.point_lists.specs.Lists.{rowOf, rows, firstValues, secondValues, marks as marksOf}
 use Rattle.point_lists.proofs.ListLaws.{filled, Filling, kept-length, room-left, stored, finished}
 use Rattle.point_lists.proofs.fill.Statement.{statement}
 use Rattle.point_lists.proofs.fill.Tie as tie
 
 abbrev Inv-loop : tie.InvT-loop
-Inv-loop t p k forward xs ys firsts₀ seconds₀ marks₀ i₀ firsts seconds marks i =
+Inv-loop t p k forward xs ys leading₀ trailing₀ marks₀ i₀ leading trailing marks i =
     (i ≤ length xs)
-    × (firsts ≡ filled i (firstsOf (rows (rowOf forward p) xs ys)) firsts₀)
-    × (seconds ≡ filled i (secondsOf (rows (rowOf forward p) xs ys)) seconds₀)
+    × (leading ≡ filled i (firstValues (rows (rowOf forward p) xs ys)) leading₀)
+    × (trailing ≡ filled i (secondValues (rows (rowOf forward p) xs ys)) trailing₀)
     × (marks ≡ filled i (marksOf (rows (rowOf forward p) xs ys)) marks₀)
 
 abbrev μ-loop : tie.MeasureT-loop
-μ-loop t p k forward xs ys firsts₀ seconds₀ marks₀ i₀ firsts seconds marks i = length xs - i
+μ-loop t p k forward xs ys leading₀ trailing₀ marks₀ i₀ leading trailing marks i = length xs - i
 
 abbrev first-of : Row → Float
 first-of r = r .first
@@ -34,19 +34,19 @@ loop-holds : tie.Need-loop-holds Inv-loop μ-loop
 loop-holds c = (omega arith, refl, refl, refl)
 
 -- the three lists at the head of the loop
-firsts-so-far :
+leading-so-far :
     (c : tie.At-loop Inv-loop μ-loop) →
     let start = c .before .before .before .before .before .before in
-    Filling first-of (rowOf (start .args .forward) (start .args .p)) (start .args .xs .now) (start .args .ys .now) (start .args .firsts .now) (c .loop .firsts) (c .loop .i)
-firsts-so-far c =
+    Filling first-of (rowOf (start .args .forward) (start .args .p)) (start .args .xs .now) (start .args .ys .now) (start .args .leading .now) (c .loop .leading) (c .loop .i)
+leading-so-far c =
     let start = c .before .before .before .before .before .before in
     record { equal = start .pre .1 .0; room = start .pre .1 .1; so-far = c .loop .inv .1 }
 
-seconds-so-far :
+trailing-so-far :
     (c : tie.At-loop Inv-loop μ-loop) →
     let start = c .before .before .before .before .before .before in
-    Filling second-of (rowOf (start .args .forward) (start .args .p)) (start .args .xs .now) (start .args .ys .now) (start .args .seconds .now) (c .loop .seconds) (c .loop .i)
-seconds-so-far c =
+    Filling second-of (rowOf (start .args .forward) (start .args .p)) (start .args .xs .now) (start .args .ys .now) (start .args .trailing .now) (c .loop .trailing) (c .loop .i)
+trailing-so-far c =
     let start = c .before .before .before .before .before .before in
     record { equal = start .pre .1 .0; room = start .pre .1 .2; so-far = c .loop .inv .2 }
 
@@ -73,17 +73,17 @@ shared-slice-read-point-2 c = omega arith
 point-requires : tie.Need-point-requires Inv-loop μ-loop
 point-requires c κs = c .before .before .before .before .before .before .before .before .before .pre .0
 
-mul-firsts : tie.Need-mul-firsts Inv-loop μ-loop
-mul-firsts c = omega arith
+mul-leading : tie.Need-mul-leading Inv-loop μ-loop
+mul-leading c = omega arith
 
-slice-write-firsts : tie.Need-slice-write-firsts Inv-loop μ-loop
-slice-write-firsts c = room-left (firsts-so-far (c .before .before .before .before)) (c .before .before .before .loop-test .taken)
+slice-write-leading : tie.Need-slice-write-leading Inv-loop μ-loop
+slice-write-leading c = room-left (leading-so-far (c .before .before .before .before)) (c .before .before .before .loop-test .taken)
 
-mul-seconds : tie.Need-mul-seconds Inv-loop μ-loop
-mul-seconds c = omega arith
+mul-trailing : tie.Need-mul-trailing Inv-loop μ-loop
+mul-trailing c = omega arith
 
-slice-write-seconds : tie.Need-slice-write-seconds Inv-loop μ-loop
-slice-write-seconds c = room-left (seconds-so-far (c .before .before .before .before)) (c .before .before .before .loop-test .taken)
+slice-write-trailing : tie.Need-slice-write-trailing Inv-loop μ-loop
+slice-write-trailing c = room-left (trailing-so-far (c .before .before .before .before)) (c .before .before .before .loop-test .taken)
 
 slice-write-marks : tie.Need-slice-write-marks Inv-loop μ-loop
 slice-write-marks c = room-left (marks-so-far (c .before .before .before .before)) (c .before .before .before .loop-test .taken)
@@ -99,16 +99,16 @@ loop-again c =
     let at = c .before .before .before .before in
     let inside = c .before .before .before .loop-test .taken in (
       omega arith,
-      stored (firsts-so-far at) nan (c .point .result) inside (c .point .ensures),
-      stored (seconds-so-far at) nan (c .point .result) inside (c .point .ensures),
+      stored (leading-so-far at) nan (c .point .result) inside (c .point .ensures),
+      stored (trailing-so-far at) nan (c .point .result) inside (c .point .ensures),
       stored (marks-so-far at) 0 (c .point .result) inside (c .point .ensures),
     )
 
 same-length : tie.Need-same-length Inv-loop μ-loop
-same-length c = kept-length (firsts-so-far (c .before))
+same-length c = kept-length (leading-so-far (c .before))
 
 same-length-2 : tie.Need-same-length-2 Inv-loop μ-loop
-same-length-2 c = kept-length (seconds-so-far (c .before))
+same-length-2 c = kept-length (trailing-so-far (c .before))
 
 same-length-3 : tie.Need-same-length-3 Inv-loop μ-loop
 same-length-3 c = kept-length (marks-so-far (c .before))
@@ -116,7 +116,7 @@ same-length-3 c = kept-length (marks-so-far (c .before))
 returns : tie.Need-returns Inv-loop μ-loop
 returns c =
     let end = le-antisymm (c .before .loop .inv .0) (c .loop-test .left) in
-    (finished (firsts-so-far (c .before)) end, (finished (seconds-so-far (c .before)) end, finished (marks-so-far (c .before)) end))
+    (finished (leading-so-far (c .before)) end, (finished (trailing-so-far (c .before)) end, finished (marks-so-far (c .before)) end))
 
 pub fill-spec : {M : Type 1} → statement M
 fill-spec =
@@ -130,10 +130,10 @@ fill-spec =
     mul-point-2
     shared-slice-read-point-2
     point-requires
-    mul-firsts
-    slice-write-firsts
-    mul-seconds
-    slice-write-seconds
+    mul-leading
+    slice-write-leading
+    mul-trailing
+    slice-write-trailing
     slice-write-marks
     add-i
     loop-less

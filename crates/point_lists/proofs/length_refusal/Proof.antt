@@ -1,4 +1,4 @@
--- `lists::length_refusal` meets its contract: the tests are those of the definition, one after the other. Assumes nothing.
+-- `length_refusal` meets its contract: the tests are those of the definition, one after the other. Assumes nothing.
 use borrow.Author.Tests.{eq-eqb, ne-eqb, le-leb, lt-leb}
 use Rattle.point_lists.specs.Lists.{lengthRefusal}
 use Rattle.point_lists.proofs.length_refusal.Statement.{statement}

@@ -1,11 +1,9 @@
--- `lists::point` meets its contract: each arm is a direction. Assumes nothing.
+-- `point` meets its contract: each arm is a direction, and the row is what the single call's answer tells. Assumes nothing.
 use borrow.Author.Needs.{needs}
 use mathlib.Core.Path.{_≡_, sym, ap, _∙_}
-use mathlib.Core.Bool.{Bool, true, false}
-use lib.Ieee.{Float}
-use Rattle.parameters.specs.declared.Parameters.{Parameters}
-use Rattle.points.specs.declared.pairs.Row.{Row}
-use Rattle.points.specs.Pairs.{forwardPair, inversePair, plane-row, geodetic-row, degrees, metres, forwardRow, inverseRow}
+use mathlib.Core.Bool.{Bool}
+use Rattle.points.specs.Pairs.{plane-row, geodetic-row, degrees, metres}
+use Rattle.points.proofs.AnswerLaws.{forward-tells, inverse-tells}
 use Rattle.point_lists.specs.Lists.{rowOf}
 use Rattle.point_lists.proofs.point.Statement.{statement}
 use Rattle.point_lists.proofs.point.Tie as tie
@@ -13,43 +11,38 @@ use Rattle.point_lists.proofs.point.Tie as tie
 forward-pair-requires : tie.Need-forward-pair-requires
 forward-pair-requires c κs = search needs
 
-plane-marked-requires : tie.Need-plane-marked-requires
-plane-marked-requires c κs = search needs
-
--- r is what the answer tells, in either direction
-forward-row : {r : Row} (p : Parameters) (way : Bool) (x y : Float) → way ≡ true → r ≡ plane-row (forwardPair p (degrees x y)) → r ≡ rowOf way p x y
-unfolding forwardRow
-forward-row p way x y e q = q ∙ ap (λ (w : Bool). rowOf w p x y) (sym e)
-
-inverse-row : {r : Row} (p : Parameters) (way : Bool) (x y : Float) → way ≡ false → r ≡ geodetic-row (inversePair p (metres x y)) → r ≡ rowOf way p x y
-unfolding inverseRow
-inverse-row p way x y e q = q ∙ ap (λ (w : Bool). rowOf w p x y) (sym e)
+plane-row-requires : tie.Need-plane-row-requires
+plane-row-requires c κs = search needs
 
 returns : tie.Need-returns
 returns c =
-    let start = c .before .before .before in
-    forward-row (start .args .p) (start .args .forward) (start .args .x) (start .args .y) (c .before .before .if1 .taken)
-    (c .plane-marked .ensures ∙ ap plane-row (c .before .forward-pair .ensures))
+    let a = c .before .before .before .args in
+    c .plane-row .ensures
+    ∙ ap plane-row (c .before .forward-pair .ensures)
+    ∙ forward-tells (a .p) (degrees (a .x) (a .y))
+    ∙ ap (λ (w : Bool). rowOf w (a .p) (a .x) (a .y)) (sym (c .before .before .if1 .taken))
 
 inverse-pair-requires : tie.Need-inverse-pair-requires
 inverse-pair-requires c κs = search needs
 
-geodetic-marked-requires : tie.Need-geodetic-marked-requires
-geodetic-marked-requires c κs = search needs
+geodetic-row-requires : tie.Need-geodetic-row-requires
+geodetic-row-requires c κs = search needs
 
 returns-2 : tie.Need-returns-2
 returns-2 c =
-    let start = c .before .before .before in
-    inverse-row (start .args .p) (start .args .forward) (start .args .x) (start .args .y) (c .before .before .if1 .left)
-    (c .geodetic-marked .ensures ∙ ap geodetic-row (c .before .inverse-pair .ensures))
+    let a = c .before .before .before .args in
+    c .geodetic-row .ensures
+    ∙ ap geodetic-row (c .before .inverse-pair .ensures)
+    ∙ inverse-tells (a .p) (metres (a .x) (a .y))
+    ∙ ap (λ (w : Bool). rowOf w (a .p) (a .x) (a .y)) (sym (c .before .before .if1 .left))
 
 pub point-spec : {M : Type 1} → statement M
 point-spec =
     tie.close
     (tie.spec
     forward-pair-requires
-    plane-marked-requires
+    plane-row-requires
     returns
     inverse-pair-requires
-    geodetic-marked-requires
+    geodetic-row-requires
     returns-2)
