@@ -1,11 +1,14 @@
 // Writes what rows are made of to standard output; a number has a space before it. Each function gives back what it was
-// given to write: no contract can say what is written.
+// given to write: no contract can say what is written. Which line of a text it is, is what `line_text` requires.
 pub mod words;
 
+use bytes::scan::find;
 use libc::STDOUT_FILENO;
 ghost use mathlib.Core.Path.{_≡_};
-ghost use Prim.Native.Nat.{_≤_};
-ghost use lib.ListN.{length};
+ghost use Prim.Native.Nat.{_+_, _≤_};
+ghost use lib.ListN.{length, drop};
+ghost use Rattle.bytes.specs.Bytes.{indexOf};
+ghost use Rattle.printing.specs.Texts.{newline, fromLine, lineOf};
 
 fn text(bytes: &[u8]) {
     io::write_all(STDOUT_FILENO, bytes);
@@ -82,33 +85,33 @@ pub fn verdict(right: bool) -> bool
 // Where the line that starts at `start` ends.
 fn line_end(all: &[u8], start: usize) -> usize
     requires { ⌜ start ≤ length (now all) ⌝ }
-    ensures { λ r. ⌜ (start ≤ r) × (r ≤ length (now (all .entry))) ⌝ }
+    ensures { λ r. ⌜ (r ≡ start + indexOf newline (drop start (now (all .entry)))) × (r ≤ length (now (all .entry))) ⌝ }
 {
-    let mut i = start;
-    while i < all.len() {
-        if all[i] == b'\n' {
-            return i;
-        }
-        i += 1;
-    }
-    i
+    find(all, start, all.len(), b'\n')
 }
 
 // Where line k starts, counted from 0; past the last line, where the text ends.
 fn line_start(all: &[u8], k: usize) -> usize
-    ensures { λ r. ⌜ r ≤ length (now (all .entry)) ⌝ }
+    ensures { λ r. ⌜ (drop r (now (all .entry)) ≡ fromLine k (now (all .entry))) × (r ≤ length (now (all .entry))) ⌝ }
 {
     let mut start = 0;
-    let mut n = 0;
-    while n < k {
+    let mut left = k;
+    while 0 < left {
         let end = line_end(all, start);
         if end == all.len() {
             return end;
         }
         start = end + 1;
-        n += 1;
+        left -= 1;
     }
     start
+}
+
+// Writes line k of a text, which is `part` of it.
+fn line_text(all: &[u8], k: usize, part: &[u8])
+    requires { ⌜ now part ≡ lineOf k (now all) ⌝ }
+{
+    text(part);
 }
 
 // Line k of a text, counted from 0, without its end. A program has the names of its rows in one text: lent one by one
@@ -118,6 +121,6 @@ pub fn line(all: &[u8], k: usize) -> usize
 {
     let start = line_start(all, k);
     let end = line_end(all, start);
-    text(&all[start..end]);
+    line_text(all, k, &all[start..end]);
     k
 }

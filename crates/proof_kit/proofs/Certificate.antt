@@ -1,6 +1,7 @@
 -- Nonlinear inequalities of ℤ, by a certificate: some multiple of y − x is a sum of products of numbers that are known not to be negative.
 -- You write that sum; `search nonneg` shows that it is not negative, from the hypotheses, and the ring normaliser that it is the multiple.
 -- Use: `certify r k sum (search nonneg depth 40 fits 20000) (search quote depth 40 fits 20000) tt : x ≤ℤ y`, where k · (y − x) is the sum.
+-- Assumes nothing.
 use mathlib.Core.Path.{_≡_, sym, ap, _∙_, subst}
 use mathlib.Core.Bool.{_&&_}
 use mathlib.Core.List.{List}

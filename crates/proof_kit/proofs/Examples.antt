@@ -1,4 +1,4 @@
--- The kit at work: an example or two of each tool, which are also its tests.
+-- The kit at work: an example or two of each tool, which are also its tests. Each holds by its tool. Assumes nothing.
 use mathlib.Core.Path.{_≡_}
 use mathlib.Core.List.{[], _∷_}
 use Prim.Native.Nat.{ℕ, _+_, _*_, _≤_}
@@ -14,7 +14,9 @@ use Rattle.proof_kit.proofs.Size.{sizes, as-size, abs-le, abs-by}
 -- ---- Ring
 
 -- a turn multiplies the sum of squares
-rotation : (S C b v : ℤ) → (S *ℤ b +ℤ C *ℤ v) *ℤ (S *ℤ b +ℤ C *ℤ v) +ℤ (C *ℤ b -ℤ S *ℤ v) *ℤ (C *ℤ b -ℤ S *ℤ v) ≡ (S *ℤ S +ℤ C *ℤ C) *ℤ (b *ℤ b +ℤ v *ℤ v)
+rotation :
+    (S C b v : ℤ) →
+    (S *ℤ b +ℤ C *ℤ v) *ℤ (S *ℤ b +ℤ C *ℤ v) +ℤ (C *ℤ b -ℤ S *ℤ v) *ℤ (C *ℤ b -ℤ S *ℤ v) ≡ (S *ℤ S +ℤ C *ℤ C) *ℤ (b *ℤ b +ℤ v *ℤ v)
 rotation S C b v = ring (S ∷ C ∷ b ∷ v ∷ []) (search quote depth 40 fits 20000) tt
 
 -- Euler's four squares: eight variables, degree 4
@@ -31,7 +33,10 @@ numerals : (n : ℕ) (x : ℤ) → (pos 2 *ℤ x -ℤ pos n) *ℤ (x +ℤ negsuc
 numerals n x = ring (pos n ∷ x ∷ []) (search quote depth 40 fits 20000) tt
 
 -- under an equation: on the unit circle, the turn keeps the sum of squares
-on-circle : (S C b v R : ℤ) → S *ℤ S +ℤ C *ℤ C ≡ R → (S *ℤ b +ℤ C *ℤ v) *ℤ (S *ℤ b +ℤ C *ℤ v) +ℤ (C *ℤ b -ℤ S *ℤ v) *ℤ (C *ℤ b -ℤ S *ℤ v) ≡ R *ℤ (b *ℤ b +ℤ v *ℤ v)
+on-circle :
+    (S C b v R : ℤ) →
+    S *ℤ S +ℤ C *ℤ C ≡ R →
+    (S *ℤ b +ℤ C *ℤ v) *ℤ (S *ℤ b +ℤ C *ℤ v) +ℤ (C *ℤ b -ℤ S *ℤ v) *ℤ (C *ℤ b -ℤ S *ℤ v) ≡ R *ℤ (b *ℤ b +ℤ v *ℤ v)
 on-circle S C b v R e = ring-from (S ∷ C ∷ b ∷ v ∷ R ∷ []) (b *ℤ b +ℤ v *ℤ v) e (search quote depth 40 fits 20000) tt
 
 -- ---- Size

@@ -1,5 +1,5 @@
--- The ring laws of ℤ that `lib.IntN` lacks: associativity of the product, distributivity, and negation.
--- Each number is read as the difference of two naturals, `P z` and `N z`, one of which is 0; a law of ℤ is then an equation of ℕ.
+-- The ring laws of ℤ that `lib.IntN` lacks: associativity of the product, distributivity, and negation. Each number is read as the
+-- difference of two naturals, `P z` and `N z`, one of which is 0; a law of ℤ is then an equation of ℕ. Assumes nothing.
 use mathlib.Core.Path.{_≡_, refl, sym, ap, ap₂, _∙_}
 use mathlib.Core.Bool.{Bool, true, false, not, cond}
 use Prim.Native.Nat.{ℕ, zero, suc, _+_, _*_, _-_, _≤_, _<_, min}
@@ -37,7 +37,11 @@ by-parts (negsuc a) (negsuc b) h = let e : a ≡ b = omega arith in ap negsuc e
 sub-parts : (a b : ℕ) → P (subℕ a b) + b ≡ a + N (subℕ a b)
 sub-parts a b = go (ltb a b) (ltb→lt a b) (nltb→le a b)
   where
-    go : (t : Bool) → (T t → a < b) → (T (not t) → b ≤ a) → P (cond t (negsuc (b - suc a)) (pos (a - b))) + b ≡ a + N (cond t (negsuc (b - suc a)) (pos (a - b)))
+    go :
+        (t : Bool) →
+        (T t → a < b) →
+        (T (not t) → b ≤ a) →
+        P (cond t (negsuc (b - suc a)) (pos (a - b))) + b ≡ a + N (cond t (negsuc (b - suc a)) (pos (a - b)))
     go true f g = let h : a < b = f tt in omega arith
     go false f g = let h : b ≤ a = g tt in omega arith
 

@@ -1,5 +1,6 @@
--- The order of ℤ: its laws, its tests, and a bridge by which `omega`, which knows only ℕ, proves linear facts of integers.
--- `x ≤ℤ y` is `P x + N y ≤ P y + N x` for the parts of `Laws.antt`. `omega order` reads the hypotheses whose sides are variables; `le-of` hands it any other, and `le-by` turns the goal.
+-- The order of ℤ: its laws, its tests, and a bridge by which `omega`, which knows only ℕ, proves linear facts of integers. Each is true because
+-- `x ≤ℤ y` is `P x + N y ≤ P y + N x` for the parts of `Laws.antt`, an order of ℕ.
+-- `omega order` reads the hypotheses whose sides are variables; `le-of` hands it any other, and `le-by` turns the goal. Assumes nothing.
 use mathlib.Core.Path.{_≡_, refl, sym, ap, subst}
 use mathlib.Core.Bool.{Bool, true, false}
 use mathlib.Core.List.{List}

@@ -1,6 +1,9 @@
--- Ranges of `i64` code. What the borrow checker leaves of an operation is that its result fits, `SFits w64 ..`, where each operand stands as it is read back, `toZ w64 (ofZ w64 ..)`.
--- `search code` finds in that goal how the number was computed (`Code`), down to numerals and to the numbers whose sizes the hypotheses bound by numerals; that every result fits is then one computed test.
--- Use: `fits (search code depth 40 fits 20000) tt` at an operation, and `read (search code depth 40 fits 20000) tt` for what is returned. Where many operations nest, list the bounds for `search`: `search (code, c .pre .0, c .pre .1) depth 40 fits 20000`.
+-- Ranges of `i64` code. What the borrow checker leaves of an operation is that its result fits, `SFits w64 ..`, where each operand stands as
+-- it is read back, `toZ w64 (ofZ w64 ..)`. `search code` finds in that goal how the number was computed (`Code`), down to numerals and to the
+-- numbers whose sizes the hypotheses bound by numerals. From these a bound follows for each result, and one that is below 2^63 is read back as
+-- it was; that every result fits is then one computed test.
+-- Use: `fits (search code depth 40 fits 20000) tt` at an operation, and `read (search code depth 40 fits 20000) tt` for what is returned. Where
+-- many operations nest, list the bounds for `search`: `search (code, c .pre .0, c .pre .1) depth 40 fits 20000`. Assumes nothing.
 use mathlib.Core.Path.{_≡_, refl, sym, ap, ap₂, _∙_, subst}
 use mathlib.Core.Bool.{Bool, true, false, _&&_}
 use Prim.Native.Nat.{ℕ, suc, pred, _+_, _*_, _/_, _^_, _≤_, _<_}
@@ -35,7 +38,8 @@ pub data Code : ℤ → Type 0 where
   cast : (m : ℕ) {n : ℕ} → m ≤ n → Code (toZ w64 m)  -- a `u64`, cast to an `i64`
   held : {x : ℤ} → SFits w64 x → Code (toZ w64 (ofZ w64 x))  -- a parameter or a callee's result of any size
 
--- `held` is left out, since it would be found before the sizes: write `search (code, held)` where none is known, as for a test of a parameter or the return of a callee's result
+-- `held` is left out, since it would be found before the sizes: write `search (code, held)` where none is known, as for a test of a parameter
+-- or the return of a callee's result
 pub ruleset code = (plus, opposite, neg, times, quot-num, quot, rem-num, rem, num, num⁻, given, back, cast)
 
 -- the number as the source means it, with nothing read back on the way
@@ -153,7 +157,8 @@ read-le a b t h =
     let p = and-yes (in-range a) (in-range b) t in
     rw (read a (p .0), read b (p .1)) h
 
--- Where the number stands under `natAbs`, `nonNeg`, `ofZ` or a test, `rw` first puts a closed name there, so that `search` can be told which number it is: `size` of `Size.antt`, and these.
+-- Where the number stands under `natAbs`, `nonNeg`, `ofZ` or a test, `rw` first puts a closed name there, so that `search` can be told which
+-- number it is: `size` of `Size.antt`, and these.
 pub sign : ℤ → Bool
 sign z = nonNeg z
 

@@ -1,6 +1,7 @@
--- A ring normaliser for ℤ: proves an identity of sums, differences and products of integers by computation.
--- `search` writes a number as a term over the listed variables (`Term`), the term becomes a polynomial (`poly`), and the identity holds if the polynomial of the difference has only zero coefficients.
--- Use: `ring (x ∷ y ∷ []) (search quote depth 40 fits 20000) tt : lhs ≡ rhs`.
+-- A ring normaliser for ℤ: proves an identity of sums, differences and products of integers by computation. `search` writes a number as a
+-- term over the listed variables (`Term`), and the term becomes a polynomial (`poly`) of the same value, by the ring laws. A polynomial with
+-- only zero coefficients has the value 0, so the identity holds if that of the difference of its sides has.
+-- Use: `ring (x ∷ y ∷ []) (search quote depth 40 fits 20000) tt : lhs ≡ rhs`. Assumes nothing.
 use mathlib.Core.Path.{_≡_, refl, sym, ap, ap₂, _∙_}
 use mathlib.Core.Bool.{Bool, true, false, _&&_}
 use mathlib.Core.List.{List, [], _∷_}
@@ -134,13 +135,20 @@ value-scale r c (node p q) =
     ∙ factor c (value r p) (first r) (value (rest r) q)
 
 -- a shortcut taken where c is 0
-shortcut : (r : List ℤ) (c z : ℤ) (s : Poly) → (c ≡ pos 0 → pos 0 ≡ z) → value r s ≡ z → value r (elim (is-zero c) [ true ↦ con (pos 0) | false ↦ s ]) ≡ z
+shortcut :
+    (r : List ℤ) (c z : ℤ) (s : Poly) →
+    (c ≡ pos 0 → pos 0 ≡ z) →
+    value r s ≡ z →
+    value r (elim (is-zero c) [ true ↦ con (pos 0) | false ↦ s ]) ≡ z
 unfolding value
 shortcut r (pos zero) z s f g = f refl
 shortcut r (pos (suc n)) z s f g = g
 shortcut r (negsuc n) z s f g = g
 
-value-low : (r : List ℤ) (a : ℤ) (f : Poly → Poly) (s : Poly) → ((t : Poly) → value r (f t) ≡ a *ℤ value r t) → value r (low f s) ≡ a *ℤ value r s
+value-low :
+    (r : List ℤ) (a : ℤ) (f : Poly → Poly) (s : Poly) →
+    ((t : Poly) → value r (f t) ≡ a *ℤ value r t) →
+    value r (low f s) ≡ a *ℤ value r s
 unfolding value
 value-low r a f (con c) h = shortcut r c (a *ℤ c) (f (con c)) (λ e. sym (ap (λ (z : ℤ). a *ℤ z) e ∙ *ℤ-zero a)) (h (con c))
 value-low r a f (node p q) h = h (node p q)
@@ -150,7 +158,10 @@ unfolding value
 value-lift r (con c) = refl
 value-lift r (node p q) = ap (λ (z : ℤ). z +ℤ value (rest r) (node p q)) (zero-*ℤ (first r)) ∙ +ℤ-idl (value (rest r) (node p q))
 
-value-each : (r : List ℤ) (a : ℤ) (f : Poly → Poly) (s : Poly) → ((t : Poly) → value (rest r) (f t) ≡ a *ℤ value (rest r) t) → value r (each f s) ≡ a *ℤ value r s
+value-each :
+    (r : List ℤ) (a : ℤ) (f : Poly → Poly) (s : Poly) →
+    ((t : Poly) → value (rest r) (f t) ≡ a *ℤ value (rest r) t) →
+    value r (each f s) ≡ a *ℤ value r s
 unfolding value
 value-each r a f (con c) h = value-lift r (low f (con c)) ∙ value-low (rest r) a f (con c) h
 value-each r a f (node p q) h =

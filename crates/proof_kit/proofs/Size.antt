@@ -1,5 +1,6 @@
--- Sizes: the laws of `natAbs`, by which an error or a range is one bound in ℕ, and squares of ℕ.
--- State a bound as `natAbs z ≤ A`, split z by `ring`, bound each part here, and let `omega` add the bounds up.
+-- Sizes: the laws of `natAbs`, by which an error or a range is one bound in ℕ, and squares of ℕ. A size is the sum of a number's two parts,
+-- one of which is 0, so a law of sizes is one of ℕ.
+-- State a bound as `natAbs z ≤ A`, split z by `ring`, bound each part here, and let `omega` add the bounds up. Assumes nothing.
 use mathlib.Core.Path.{_≡_, refl}
 use Prim.Native.Nat.{ℕ, zero, suc, _+_, _*_, _/_, _%_, _≤_, _<_, zero-le}
 use native.Mathlib.Decide.{decLe}

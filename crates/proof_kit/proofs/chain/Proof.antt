@@ -1,4 +1,4 @@
--- `chain` meets its contract: no result on the way passes 2^63.
+-- `chain` meets its contract: from sizes of at most 1,000 no result on the way passes 2^63. Assumes nothing.
 use Rattle.proof_kit.proofs.Range.{code, fits, read}
 use Rattle.proof_kit.proofs.chain.Statement.{statement}
 use Rattle.proof_kit.proofs.chain.Tie as tie

@@ -1,4 +1,4 @@
--- `distance` meets its contract: the difference is in the range that `magnitude` requires.
+-- `distance` meets its contract: the difference of two numbers of at most 10^9 is in the range that `magnitude` requires. Assumes nothing.
 use mathlib.Core.Path.{_∙_, ap}
 use lib.IntN.{pos}
 use Rattle.proof_kit.proofs.Range.{code, held, fits, read, read-abs, read-size}

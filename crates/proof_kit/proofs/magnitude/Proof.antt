@@ -1,4 +1,4 @@
--- `magnitude` meets its contract: below 0 the size is the opposite, and elsewhere the number itself.
+-- `magnitude` meets its contract: below 0 the size is the opposite, and elsewhere the number itself. Assumes nothing.
 use mathlib.Core.Path.{sym, _∙_}
 use Rattle.proof_kit.proofs.Order.{<ℤ-≤ℤ, neg-abs, pos-abs}
 use Rattle.proof_kit.proofs.Range.{code, fits, read, as-lt, lt-taken, lt-left}

@@ -1,4 +1,4 @@
--- `nearest` meets its contract: with x and d positive, the quotients toward zero are those of the natural numbers.
+-- `nearest` meets its contract: with x and d positive, the quotients toward zero are those of the natural numbers. Assumes nothing.
 use mathlib.Core.Path.{_≡_, refl, _∙_}
 use Prim.Native.Nat.{_+_, _/_}
 use lib.Dec.{lit<}

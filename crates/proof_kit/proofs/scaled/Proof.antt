@@ -1,4 +1,4 @@
--- `scaled` meets its contract: the product of two numbers that are not negative is cast back as it is.
+-- `scaled` meets its contract: the product of two numbers that are not negative is cast back as it is. Assumes nothing.
 use mathlib.Core.Path.{ap, _∙_}
 use lib.IntN.{pos}
 use borrow.Author.Needs.{needs}

@@ -1,4 +1,4 @@
--- `turned` meets its contract: the sizes that it requires bound each product, and their difference, below 2^63.
+-- `turned` meets its contract: the sizes that it requires bound each product, and their difference, below 2^63. Assumes nothing.
 use Rattle.proof_kit.proofs.Range.{code, fits, read}
 use Rattle.proof_kit.proofs.turned.Statement.{statement}
 use Rattle.proof_kit.proofs.turned.Tie as tie
