@@ -1,4 +1,5 @@
 pub mod Signs
 pub mod Rounding
 pub mod Greatest
+pub mod Search
 pub mod Squares

@@ -1,3 +1,4 @@
 pub mod Near
 pub mod Greatest
+pub mod Search
 pub mod Root
