@@ -3,21 +3,18 @@
 -- is at most the greatest and one that fails is above it, so either drops a half of the span.
 -- One set of laws over the test serves the root, the angle and the geodetic latitude. Assumes nothing.
 use mathlib.Core.Path.{_≡_, refl, sym, ap, _∙_, subst}
-use mathlib.Core.Bool.{Bool, true, false, cond, not, _&&_}
+use mathlib.Core.Bool.{Bool, true, false, cond, _&&_}
 use mathlib.Core.Logic.{_⊎_, inl, inr}
-use Prim.Native.Nat.{ℕ, zero, suc, _+_, _-_, _/_, _<_, _≤_, zero-le}
+use Prim.Native.Nat.{ℕ, zero, suc, _-_, _/_, _<_, _≤_, zero-le}
 use native.Mathlib.Nat.{le-refl, le-suc, le-trans, eq-or-lt-of-le, le-of-suc-le-suc}
 use native.Mathlib.Omega.{arith}
-use lib.Dec.{leb}
-use borrow.Author.Tests.{leb-true, leb-false, le-leb, lt-leb}
-use Rattle.proof_kit.proofs.Order.{le-or-lt}
-use Rattle.integers.specs.Greatest.{greatest, bracketed}
+use Rattle.integers.specs.Greatest.{greatest}
 
 -- up to n the test stays false once it is false
 abbrev pub Falls : (ℕ → Bool) → ℕ → Type 0
 Falls test n = (a b : ℕ) → a ≤ b → b ≤ n → test b ≡ true → test a ≡ true
 
-not-both : {b : Bool} → b ≡ true → b ≡ false → ⊥
+pub not-both : {b : Bool} → b ≡ true → b ≡ false → ⊥
 not-both p q = let z : _≡_ {A = Bool} true false = sym p ∙ q in subst (λ (b : Bool). cond b ℕ ⊥) z 0
 
 pub not-true : (b : Bool) → (b ≡ true → ⊥) → b ≡ false
@@ -98,69 +95,6 @@ module _ (test : ℕ → Bool) where
     greatest-edge r h pass fail =
         let e : suc r - 1 ≡ r = omega arith in
         greatest-lower (suc r) (omega arith) h fail ∙ ap (greatest test) e ∙ greatest-here r pass
-
-  -- ---- a span from low to high, for a test that 0 passes
-  module _ (n : ℕ) (falls : Falls test n) (start : test 0 ≡ true) where
-    -- what passes is what is not above the greatest
-    passes-is : (k : ℕ) → k ≤ n → test k ≡ leb k (greatest test n)
-    passes-is k h = at (test k) refl
-      where
-        at : (b : Bool) → test k ≡ b → b ≡ leb k (greatest test n)
-        at true e = sym (le-leb k (greatest test n) (greatest-ge n k h e))
-        at false e =
-            let passes : k ≤ greatest test n → test k ≡ true = λ h. falls k (greatest test n) h (greatest-le n) (greatest-passes start n) in
-            sym (not-true (leb k (greatest test n)) (λ t. not-both (passes (leb-true k (greatest test n) t)) e))
-
-    -- the span holds the greatest where its low end passes and its high end is n, or the number after it fails
-    pub low-fails : (low high : ℕ) → low ≤ n → test low ≡ false → false ≡ bracketed test n low high
-    unfolding bracketed
-    low-fails low high l e = rw (sym (passes-is low l) ∙ e)
-
-    pub at-top : (low high : ℕ) → low ≤ n → test low ≡ true → high ≡ n → true ≡ bracketed test n low high
-    unfolding bracketed
-    at-top low high l e f = rw (sym (passes-is low l) ∙ e, f, le-leb (greatest test n) n (greatest-le n))
-
-    pub next-tested : (low high : ℕ) → low ≤ n → test low ≡ true → high < n → not (test (high + 1)) ≡ bracketed test n low high
-    unfolding bracketed
-    next-tested low high l e h =
-        rw (sym (passes-is low l) ∙ e, passes-is (high + 1) (omega arith)) (at (leb (high + 1) (greatest test n)) refl)
-      where
-        at : (b : Bool) → leb (high + 1) (greatest test n) ≡ b → not b ≡ leb (greatest test n) high
-        at true e = sym (lt-leb (greatest test n) high (omega (arith, leb-true (high + 1) (greatest test n) e)))
-        at false e = sym (le-leb (greatest test n) high (omega (arith, leb-false (high + 1) (greatest test n) e)))
-
-    -- a span that holds the greatest is one to search
-    pub bracket :
-        {r : Bool} (low high : ℕ) →
-        low ≤ n →
-        high ≤ n →
-        r ≡ bracketed test n low high →
-        r ≡ true →
-        (test low ≡ true) × (greatest test high ≡ greatest test n)
-    unfolding bracketed
-    bracket low high l h e t =
-        let sides = both (leb low (greatest test n)) (leb (greatest test n) high) (sym e ∙ t) in
-        let above : greatest test n ≤ high = leb-true (greatest test n) high (sides .1) in (
-          passes-is low l ∙ sides .0,
-          sym (greatest-skip n high h (λ k a b. passes-is k b ∙ lt-leb k (greatest test n) (omega arith))),
-        )
-
-    -- a span of margin m about e that does not hold the greatest is not the whole span
-    pub margin-below :
-        {r : Bool} (e m low high : ℕ) →
-        e ≤ n →
-        low ≡ e - m →
-        high ≡ n - (n - (e + m)) →
-        r ≡ bracketed test n low high →
-        r ≡ false →
-        m < n
-    margin-below e m low high h f g told fail = at (le-or-lt n m)
-      where
-        at : (n ≤ m) ⊎ (m < n) → m < n
-        at (inl l) =
-            let first : low ≡ 0 = omega arith in
-            absurd (not-both (told ∙ sym (at-top low high (omega arith) (rw first start) (omega arith))) fail)
-        at (inr l) = l
 
   -- ---- a search that halves the span from low to high, where low passes
 

@@ -1,5 +1,6 @@
 pub mod Signs
 pub mod Rounding
 pub mod Greatest
+pub mod Search
 pub mod Squares
 pub mod Meanings

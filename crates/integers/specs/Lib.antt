@@ -1,4 +1,5 @@
 pub mod Near
 pub mod Greatest
+pub mod Search
 pub mod Root
 pub mod Theorems

@@ -10,11 +10,12 @@ use lib.Dec.{eqb, leb}
 use lib.Ieee.{Float}
 use lib.ListN.{length}
 use Rattle.parameters.specs.declared.Parameters.{Parameters}
-use Rattle.units.specs.Refusals.{unless, firstOf}
+use Rattle.units.specs.Refusals.{firstOf}
+use Rattle.units.proofs.Chains.{link-passed}
 use Rattle.parameters.specs.ParameterSet.{setRefusal}
 use Rattle.points.specs.declared.pairs.Row.{Row}
 use Rattle.point_lists.specs.declared.ListAnswer.{ListAnswer}
-use Rattle.point_lists.specs.Lists.{rows, marks, lengthRefusal, listRefusal, zeros, written, Counted, list-told, counted, ListCall}
+use Rattle.point_lists.specs.Lists.{longest, rows, marks, lengthRefusal, listRefusal, zeros, written, Counted, list-told, counted, ListCall}
 use Rattle.point_lists.proofs.ListLaws.{column-length, zeros-most}
 use Rattle.point_lists.proofs.ListedLaws.{equal-lengths}
 use Rattle.laea_c.specs.Calls.{returned, ReturnsList}
@@ -23,17 +24,13 @@ no-first : (n m : ℕ) → firstOf n m ≡ 0 → n ≡ 0
 no-first zero m e = refl
 no-first (suc n) m e = e
 
-second-passed : (t u : Bool) → unless t 5 (unless u 6 0) ≡ 0 → u ≡ true
-second-passed t true e = refl
-second-passed true false e = let z : ⊥ = omega (arith, e) in absurd z
-second-passed false false e = let z : ⊥ = omega (arith, e) in absurd z
-
 -- without refusal no list is longer than 4,096
-not-longer : (a b c d e : ℕ) → lengthRefusal a b c d e ≡ 0 → a ≤ 4096
+not-longer : (a b c d e : ℕ) → lengthRefusal a b c d e ≡ 0 → a ≤ longest
 unfolding lengthRefusal
-not-longer a b c d e h = leb-true a 4096 (second-passed (eqb b a && (eqb c a && (eqb d a && eqb e a))) (leb a 4096) h)
+not-longer a b c d e h =
+    leb-true a longest (link-passed (leb a longest) 5 (link-passed (eqb b a && (eqb c a && (eqb d a && eqb e a))) 4 h .1) .0)
 
-count-of : (refusal n : ℕ) → (refusal ≡ 0 → n ≤ 4096) → counted refusal n .count ≤ 4096
+count-of : (refusal n : ℕ) → (refusal ≡ 0 → n ≤ longest) → counted refusal n .count ≤ longest
 count-of zero n most = most refl
 count-of (suc m) n most = omega arith
 
@@ -43,17 +40,17 @@ module _ (q : Parameters) (row : Parameters → Float → Float → Row) (xs ys 
   lengths-accepted none = no-first _ (setRefusal q) none
 
   -- as many marks as points
-  zeros-few : listRefusal q xs ys first second mark ≡ 0 → zeros mark′ ≤ 4096
+  zeros-few : listRefusal q xs ys first second mark ≡ 0 → zeros mark′ ≤ longest
   zeros-few none =
       let points = rows (row q) xs ys in
       let written-marks : mark′ ≡ marks points = call .marks-are ∙ ap (λ (n : ℕ). written n (marks points) mark) none in
       let as-many : length mark′ ≡ length xs = ap length written-marks ∙ column-length (λ (r : Row). r .mark) (row q) xs ys (equal-lengths _ _ _ _ _ (lengths-accepted none) .0) in
-      let few : length xs ≤ 4096 = not-longer _ _ _ _ _ (lengths-accepted none) in
+      let few : length xs ≤ longest = not-longer _ _ _ _ _ (lengths-accepted none) in
       omega (arith, as-many, few, zeros-most mark′)
 
-  pub count-few : list-told answer .count ≤ 4096
+  pub count-few : list-told answer .count ≤ longest
   count-few =
-      subst (λ (n : ℕ). n ≤ 4096) (ap (λ (t : Counted). t .count) (sym (call .answer-tells))) (count-of _ _ zeros-few)
+      subst (λ (n : ℕ). n ≤ longest) (ap (λ (t : Counted). t .count) (sym (call .answer-tells))) (count-of _ _ zeros-few)
 
   -- q is the set p of the call's fields
   pub returns-list : {p : Parameters} {r : ℤ} → q ≡ p → r ≡ returned answer → ReturnsList p row xs ys first first′ second second′ mark mark′ r

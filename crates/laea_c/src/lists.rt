@@ -6,13 +6,12 @@ use point_lists::forward_list;
 use point_lists::inverse_list;
 ghost use mathlib.Core.Path.{_≡_};
 ghost use Prim.Native.Nat.{_≤_};
-ghost use Rattle.points.specs.Pairs.{forwardRow, inverseRow};
-ghost use Rattle.point_lists.specs.Lists.{list-told};
+ghost use Rattle.point_lists.specs.Lists.{longest, rowOf, list-told};
 ghost use Rattle.laea_c.specs.Calls.{setOf, returned as returnedOf, ReturnsList};
 
 // The count, or the refusal number made negative.
 fn returned(answer: ListAnswer) -> i64
-    requires { ⌜ list-told answer .count ≤ 4_096 ⌝ }
+    requires { ⌜ list-told answer .count ≤ longest ⌝ }
     ensures { λ r. ⌜ r ≡ returnedOf answer ⌝ }
 {
     match answer {
@@ -32,14 +31,14 @@ pub extern "C" fn laea_forward_list(
     false_northing: i64,
     latitudes: &[f64],
     longitudes: &[f64],
-    firsts: &mut [f64],
-    seconds: &mut [f64],
+    leading: &mut [f64],
+    trailing: &mut [f64],
     marks: &mut [u8],
 ) -> i64
-    ensures { λ r. ⌜ ReturnsList (setOf a e2 lat0 lon0 «false_easting» «false_northing») forwardRow (now (latitudes .entry)) (now (longitudes .entry)) (now (firsts .entry)) (now (firsts .exit)) (now (seconds .entry)) (now (seconds .exit)) (now (marks .entry)) (now (marks .exit)) r ⌝ }
+    ensures { λ r. ⌜ ReturnsList (setOf a e2 lat0 lon0 «false_easting» «false_northing») (rowOf true) (now (latitudes .entry)) (now (longitudes .entry)) (now (leading .entry)) (now (leading .exit)) (now (trailing .entry)) (now (trailing .exit)) (now (marks .entry)) (now (marks .exit)) r ⌝ }
 {
     let p = set(a, e2, lat0, lon0, false_easting, false_northing);
-    returned(forward_list(p, latitudes, longitudes, firsts, seconds, marks))
+    returned(forward_list(p, latitudes, longitudes, leading, trailing, marks))
 }
 
 // Metres to degrees.
@@ -51,14 +50,14 @@ pub extern "C" fn laea_inverse_list(
     lon0: i64,
     false_easting: i64,
     false_northing: i64,
-    firsts: &[f64],
-    seconds: &[f64],
+    leading: &[f64],
+    trailing: &[f64],
     latitudes: &mut [f64],
     longitudes: &mut [f64],
     marks: &mut [u8],
 ) -> i64
-    ensures { λ r. ⌜ ReturnsList (setOf a e2 lat0 lon0 «false_easting» «false_northing») inverseRow (now (firsts .entry)) (now (seconds .entry)) (now (latitudes .entry)) (now (latitudes .exit)) (now (longitudes .entry)) (now (longitudes .exit)) (now (marks .entry)) (now (marks .exit)) r ⌝ }
+    ensures { λ r. ⌜ ReturnsList (setOf a e2 lat0 lon0 «false_easting» «false_northing») (rowOf false) (now (leading .entry)) (now (trailing .entry)) (now (latitudes .entry)) (now (latitudes .exit)) (now (longitudes .entry)) (now (longitudes .exit)) (now (marks .entry)) (now (marks .exit)) r ⌝ }
 {
     let p = set(a, e2, lat0, lon0, false_easting, false_northing);
-    returned(inverse_list(p, firsts, seconds, latitudes, longitudes, marks))
+    returned(inverse_list(p, leading, trailing, latitudes, longitudes, marks))
 }

@@ -2,7 +2,7 @@
 -- Assumes nothing.
 use mathlib.Core.Path.{_≡_, sym, ap, _∙_, subst}
 use mathlib.Core.Bool.{true}
-use mathlib.Core.List.{[], _∷_}
+use mathlib.Core.List.{List, [], _∷_}
 use Prim.Native.Nat.{ℕ, _+_, _-_, _≤_}
 use native.Mathlib.Omega.{arith}
 use lib.IntN.{ℤ, pos, negℤ, natAbs, _+ℤ_, _-ℤ_}
@@ -14,10 +14,11 @@ use Rattle.proof_kit.proofs.Ring.{ring, quote}
 use Rattle.proof_kit.proofs.Size.{within}
 use Rattle.proof_kit.proofs.Order.{≤ℤ-trans, leZ-true, le-leZ, abs-lower}
 use Rattle.integers.proofs.Greatest.{Falls}
+use Rattle.integers.proofs.Search.{Threshold}
 use Rattle.units.specs.Units.{right-angle, half-turn}
 use Rattle.latitudes.specs.declared.AuthalicSeries.{AuthalicSeries}
 use Rattle.latitudes.specs.declared.Authalic.{Authalic}
-use Rattle.latitudes.specs.Latitude.{SmallSeries, beta, from-south-pole, not-above}
+use Rattle.latitudes.specs.Latitude.{SmallSeries, Searchable, beta, from-south-pole, not-above}
 use Rattle.latitudes.proofs.AuthalicLaws.{betaMas, beta-mono, beta-south-pole}
 
 pub not-above-pole : (k : AuthalicSeries) (β : Authalic) → natAbs (β .0) ≤ right-angle → not-above k β 0 ≡ true
@@ -43,6 +44,10 @@ not-above-falls k small β n a b h l t =
     rises : (a b : ℕ) → a ≤ b → beta k (from-south-pole a) .0 ≤ℤ beta k (from-south-pole b) .0
     rises a b h =
         subst (λ (φ : ℤ). betaMas k (from-south-pole a .0) ≤ℤ betaMas k φ) (sym (further a b h)) (beta-mono k small (b - a) (from-south-pole a .0))
+
+pub not-above-threshold : {t : List ℕ} {k : AuthalicSeries} {β : Authalic} → Searchable t k β → Threshold (not-above k β) half-turn
+not-above-threshold {k = k} {β = β} given =
+    record { zero-passes = not-above-pole k β (given .beta-size); falls = not-above-falls k (given .small) β half-turn }
 
 pub from-south-pole-size : (n : ℕ) → n ≤ half-turn → natAbs (from-south-pole n .0) ≤ right-angle
 unfolding from-south-pole

@@ -1,11 +1,13 @@
 -- Document 01, "Authalic latitude (Snyder 3-14)", and the way back.
 use Prim.Native.Nat.{ℕ, _≤_}
 use mathlib.Core.Bool.{Bool}
+use mathlib.Core.List.{List}
 use lib.IntN.{ℤ, pos, natAbs, _+ℤ_, _-ℤ_, _*ℤ_}
 use lib.Signed.{leZ}
 use Rattle.integers.specs.Near.{near}
 use Rattle.integers.specs.Greatest.{greatest}
 use Rattle.units.specs.Units.{unit, right-angle, half-turn}
+use Rattle.sine_table.specs.Table.{IsTable}
 use Rattle.trig.specs.Sine.{sine}
 use Rattle.latitudes.specs.declared.Geodetic.{Geodetic}
 use Rattle.latitudes.specs.declared.Authalic.{Authalic}
@@ -47,3 +49,9 @@ pub record SmallReversed (k : ReversedSeries) : Type 0 where
   pub k2-size : natAbs (k .k2) ≤ 45_000_000
   pub k4-size : natAbs (k .k4) ≤ 250_000
   pub k6-size : natAbs (k .k6) ≤ 3_000
+
+-- What every step of the search for φ is asked: the table, small coefficients, and a latitude β.
+pub record Searchable (t : List ℕ) (k : AuthalicSeries) (β : Authalic) : Type 0 where
+  pub table : IsTable t
+  pub small : SmallSeries k
+  pub beta-size : natAbs (β .0) ≤ right-angle

@@ -8,14 +8,14 @@ use units::HALF_TURN;
 use units::LATITUDE_MOST;
 use units::UNIT_DIVISOR;
 ghost use mathlib.Core.Path.{_≡_};
-ghost use mathlib.Core.Bool.{true};
 ghost use Prim.Native.Nat.{_≤_};
 ghost use lib.IntN.{natAbs};
 ghost use Rattle.integers.specs.Greatest.{greatest, bracketed};
+ghost use Rattle.integers.specs.Search.{Span, About};
 ghost use Rattle.sine_table.specs.Table.{IsTable};
 ghost use Rattle.units.specs.Units.{right-angle, half-turn};
 ghost use Rattle.trig.specs.Sine.{sine as sineOf, cosine as cosineOf};
-ghost use Rattle.latitudes.specs.Latitude.{SmallSeries, SmallReversed, rounded, beta, not-above, geodetic};
+ghost use Rattle.latitudes.specs.Latitude.{SmallSeries, SmallReversed, Searchable, rounded, beta, not-above, geodetic};
 
 // The latitude on the ellipsoid.
 pub struct Geodetic(pub i64);
@@ -88,7 +88,7 @@ pub fn to_authalic(t: &Table, k: AuthalicSeries, lat: Geodetic) -> Authalic
 
 // Whether β of the latitude n mas from the South Pole is not above the one given.
 fn is_not_above(t: &Table, k: AuthalicSeries, beta: Authalic, n: u64) -> bool
-    requires { ⌜ IsTable (now t) × SmallSeries k × (natAbs (beta .0) ≤ right-angle) × (n ≤ half-turn) ⌝ }
+    requires { ⌜ Searchable (now t) k beta × (n ≤ half-turn) ⌝ }
     ensures { λ r. ⌜ r ≡ not-above k beta n ⌝ }
 {
     let lat = Geodetic(n as i64 - LATITUDE_MOST);
@@ -97,7 +97,7 @@ fn is_not_above(t: &Table, k: AuthalicSeries, beta: Authalic, n: u64) -> bool
 
 // The greatest such latitude up to `high`, where `low` is one: halves the span until one is left.
 fn search(t: &Table, k: AuthalicSeries, beta: Authalic, low: u64, high: u64) -> u64
-    requires { ⌜ IsTable (now t) × SmallSeries k × (natAbs (beta .0) ≤ right-angle) × (low ≤ high) × (high ≤ half-turn) × (not-above k beta low ≡ true) ⌝ }
+    requires { ⌜ Searchable (now t) k beta × Span (not-above k beta) half-turn low high ⌝ }
     ensures { λ r. ⌜ r ≡ greatest (not-above k beta) high ⌝ }
 {
     if low == high {
@@ -114,7 +114,7 @@ fn search(t: &Table, k: AuthalicSeries, beta: Authalic, low: u64, high: u64) -> 
 // Whether the greatest such latitude lies from `low` to `high`: `low` is one, and the latitude after
 // `high` is not or is past the North Pole.
 fn is_bracketed(t: &Table, k: AuthalicSeries, beta: Authalic, low: u64, high: u64) -> bool
-    requires { ⌜ IsTable (now t) × SmallSeries k × (natAbs (beta .0) ≤ right-angle) × (low ≤ half-turn) × (high ≤ half-turn) ⌝ }
+    requires { ⌜ Searchable (now t) k beta × (low ≤ half-turn) × (high ≤ half-turn) ⌝ }
     ensures { λ r. ⌜ r ≡ bracketed (not-above k beta) half-turn low high ⌝ }
 {
     if !is_not_above(t, k, beta, low) {
@@ -129,7 +129,7 @@ fn is_bracketed(t: &Table, k: AuthalicSeries, beta: Authalic, low: u64, high: u6
 // The greatest such latitude: searches the span of this margin about the estimate, or where that
 // does not hold it a wider one, up to all latitudes.
 fn search_near(t: &Table, k: AuthalicSeries, beta: Authalic, estimate: u64, margin: u64) -> u64
-    requires { ⌜ IsTable (now t) × SmallSeries k × (natAbs (beta .0) ≤ right-angle) × (estimate ≤ half-turn) × (margin ≤ 12_000_000_000) ⌝ }
+    requires { ⌜ Searchable (now t) k beta × About half-turn estimate margin ⌝ }
     ensures { λ r. ⌜ r ≡ greatest (not-above k beta) half-turn ⌝ }
 {
     let low = excess(estimate, margin);

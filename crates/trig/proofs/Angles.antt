@@ -2,6 +2,7 @@
 -- Assumes nothing.
 use mathlib.Core.Path.{_≡_, refl, sym, ap, ap₂, _∙_}
 use mathlib.Core.Bool.{Bool, true, false, cond, _&&_}
+use mathlib.Core.List.{List}
 use Prim.Native.Nat.{ℕ, zero, suc, _+_, _-_, _*_, _<_, _≤_, zero-le}
 use native.Mathlib.Nat.{le-trans, mul-le-mul-right}
 use native.Mathlib.Omega.{arith}
@@ -11,9 +12,10 @@ use lib.Signed.{leZ}
 use borrow.Author.Tests.{le-leb, leb-true, eq-eqb, ne-eqb}
 use Rattle.integers.specs.Greatest.{greatest}
 use Rattle.integers.proofs.Greatest.{Falls, greatest-edge}
+use Rattle.integers.proofs.Search.{Threshold}
 use Rattle.units.specs.Units.{right-angle}
 use Rattle.trig.specs.Sine.{first-quarter}
-use Rattle.trig.specs.Angle.{under, angle}
+use Rattle.trig.specs.Angle.{under, angle, Searchable}
 use Rattle.trig.proofs.Quarter.{quarter-mono, quarter-zero}
 use Rattle.trig.proofs.Symmetry.{sine-first, cosine-first}
 
@@ -32,6 +34,9 @@ under-falls p q a b h l t =
     let sine-rises : first-quarter a * p ≤ first-quarter b * p = mul-le-mul-right p (quarter-mono h l) in
     let cosine-falls : first-quarter (right-angle - b) * q ≤ first-quarter (right-angle - a) * q = mul-le-mul-right q (quarter-mono {a = right-angle - b} {b = right-angle - a} (omega arith) (omega arith)) in
     under-is p q a (le-trans h l) ∙ le-leb (first-quarter a * p) (first-quarter (right-angle - a) * q) (le-trans sine-rises (le-trans low cosine-falls))
+
+pub under-threshold : {t : List ℕ} {p q : ℕ} → Searchable t p q → Threshold (under p q) right-angle
+under-threshold {p = p} {q = q} given = record { zero-passes = under-zero p q; falls = under-falls p q }
 
 -- ---- the angle
 

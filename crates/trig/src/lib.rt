@@ -11,14 +11,14 @@ use units::LATITUDE_MOST;
 use units::MINUTE;
 use units::RIGHT_ANGLE;
 ghost use mathlib.Core.Path.{_≡_};
-ghost use mathlib.Core.Bool.{true};
 ghost use Prim.Native.Nat.{_<_, _≤_, _^_};
 ghost use lib.IntN.{natAbs};
 ghost use Rattle.integers.specs.Greatest.{greatest, bracketed};
+ghost use Rattle.integers.specs.Search.{Span, About};
 ghost use Rattle.sine_table.specs.Table.{IsTable, entry};
 ghost use Rattle.units.specs.Units.{right-angle, half-turn};
 ghost use Rattle.trig.specs.Sine.{first-quarter, first-half, sine, cosine};
-ghost use Rattle.trig.specs.Angle.{under, angle};
+ghost use Rattle.trig.specs.Angle.{under, angle, angle-limit, Searchable};
 
 // T[k].
 fn minute_sine(t: &Table, k: u64) -> u64
@@ -78,7 +78,7 @@ pub fn cosine(t: &Table, theta: i64) -> i64
 
 // Whether sine(θ)·p is not above cosine(θ)·q.
 fn is_under(t: &Table, p: u64, q: u64, theta: u64) -> bool
-    requires { ⌜ IsTable (now t) × (p ≤ 18_000_000_000) × (q ≤ 18_000_000_000) × (theta ≤ right-angle) ⌝ }
+    requires { ⌜ Searchable (now t) p q × (theta ≤ right-angle) ⌝ }
     ensures { λ r. ⌜ r ≡ under p q theta ⌝ }
 {
     first_quarter(t, theta) * p <= first_quarter(t, RIGHT_ANGLE - theta) * q
@@ -86,7 +86,7 @@ fn is_under(t: &Table, p: u64, q: u64, theta: u64) -> bool
 
 // The greatest angle up to `high` that is under, where `low` is: halves the span until one is left.
 fn search(t: &Table, p: u64, q: u64, low: u64, high: u64) -> u64
-    requires { ⌜ IsTable (now t) × (p ≤ 18_000_000_000) × (q ≤ 18_000_000_000) × (low ≤ high) × (high ≤ right-angle) × (under p q low ≡ true) ⌝ }
+    requires { ⌜ Searchable (now t) p q × Span (under p q) right-angle low high ⌝ }
     ensures { λ r. ⌜ r ≡ greatest (under p q) high ⌝ }
 {
     if low == high {
@@ -103,7 +103,7 @@ fn search(t: &Table, p: u64, q: u64, low: u64, high: u64) -> u64
 // Whether the greatest angle that is under lies from `low` to `high`: `low` is under, and the angle
 // after `high` is not or is past 90°.
 fn is_bracketed(t: &Table, p: u64, q: u64, low: u64, high: u64) -> bool
-    requires { ⌜ IsTable (now t) × (p ≤ 18_000_000_000) × (q ≤ 18_000_000_000) × (low ≤ right-angle) × (high ≤ right-angle) ⌝ }
+    requires { ⌜ Searchable (now t) p q × (low ≤ right-angle) × (high ≤ right-angle) ⌝ }
     ensures { λ r. ⌜ r ≡ bracketed (under p q) right-angle low high ⌝ }
 {
     if !is_under(t, p, q, low) {
@@ -118,7 +118,7 @@ fn is_bracketed(t: &Table, p: u64, q: u64, low: u64, high: u64) -> bool
 // The greatest angle that is under: searches the span of this margin about the estimate, or where
 // that does not hold it a wider one, up to the whole quarter.
 fn search_near(t: &Table, p: u64, q: u64, estimate: u64, margin: u64) -> u64
-    requires { ⌜ IsTable (now t) × (p ≤ 18_000_000_000) × (q ≤ 18_000_000_000) × (estimate ≤ right-angle) × (margin ≤ 6_000_000_000) ⌝ }
+    requires { ⌜ Searchable (now t) p q × About right-angle estimate margin ⌝ }
     ensures { λ r. ⌜ r ≡ greatest (under p q) right-angle ⌝ }
 {
     let low = excess(estimate, margin);
@@ -139,7 +139,7 @@ fn part(a: u64, x: u64) -> u64
 
 // lower/upper in parts of 2^14.
 fn ratio(lower: u64, upper: u64) -> u64
-    requires { ⌜ (lower ≤ upper) × (upper ≤ 18_000_000_000) ⌝ }
+    requires { ⌜ (lower ≤ upper) × (upper ≤ angle-limit) ⌝ }
     ensures { λ r. ⌜ r ≤ 16_384 ⌝ }
 {
     lower * 16_384 / (upper + 1)
@@ -161,7 +161,7 @@ fn arctangent_minutes(x: u64) -> u64
 
 // angle(p, q) to within 4 minutes.
 fn estimate_minutes(p: u64, q: u64) -> u64
-    requires { ⌜ (p ≤ 18_000_000_000) × (q ≤ 18_000_000_000) ⌝ }
+    requires { ⌜ (p ≤ angle-limit) × (q ≤ angle-limit) ⌝ }
     ensures { λ k. ⌜ k ≤ 5400 ⌝ }
 {
     let lower = p - excess(p, q);
@@ -174,7 +174,7 @@ fn estimate_minutes(p: u64, q: u64) -> u64
 // (cosine(k)·q − sine(k)·p)/(cosine(k)·p + sine(k)·q), and one radian has 206,264,806 mas. Ten
 // minutes are added on the way, so that nothing is negative. Nothing rests on its precision.
 fn estimate(t: &Table, p: u64, q: u64) -> u64
-    requires { ⌜ IsTable (now t) × (p ≤ 18_000_000_000) × (q ≤ 18_000_000_000) ⌝ }
+    requires { ⌜ IsTable (now t) × (p ≤ angle-limit) × (q ≤ angle-limit) ⌝ }
     ensures { λ r. ⌜ r ≤ right-angle ⌝ }
 {
     let k = estimate_minutes(p, q);
@@ -187,7 +187,7 @@ fn estimate(t: &Table, p: u64, q: u64) -> u64
 
 // angle(p, q): the angle from 0 to 90° whose sine and cosine are as q and p.
 pub fn angle(t: &Table, p: u64, q: u64) -> u64
-    requires { ⌜ IsTable (now t) × (p ≤ 18_000_000_000) × (q ≤ 18_000_000_000) ⌝ }
+    requires { ⌜ IsTable (now t) × (p ≤ angle-limit) × (q ≤ angle-limit) ⌝ }
     ensures { λ r. ⌜ r ≡ angle p q ⌝ }
 {
     // both are 0

@@ -1,4 +1,5 @@
--- `is_not_above` meets its contract: n counts a latitude from the South Pole, whose β is compared. Assumes nothing.
+-- `is_not_above` meets its contract: n counts a latitude from the South Pole, so it is within ±90°, and its β is the one that is compared.
+-- Both β are within ±90° and are read back from 64 bits as they were. Assumes nothing.
 use borrow.Author.Needs.{needs}
 use mathlib.Core.Path.{_≡_, ap, ap₂, _∙_}
 use Prim.Native.Nat.{_≤_}
@@ -23,7 +24,11 @@ sub-t7 : tie.Need-sub-t7
 sub-t7 c = fits (search code depth 40 fits 20000) tt
 
 to-authalic-requires : tie.Need-to-authalic-requires
-to-authalic-requires c κs = (c .pre .0, c .pre .1, rw (counted (c .args .n) (c .pre .3)) (from-south-pole-size (c .args .n) (c .pre .3)))
+to-authalic-requires c κs = (
+  c .pre .0 .table,
+  c .pre .0 .small,
+  rw (counted (c .args .n) (c .pre .1)) (from-south-pole-size (c .args .n) (c .pre .1)),
+)
 
 returns : tie.Need-returns
 unfolding not-above
@@ -32,12 +37,13 @@ returns c =
     let called = c .before .before .before .before .to-authalic in
     let k = start .args .k in
     let φ = from-south-pole (start .args .n) in
-    let found : called .result ≡ beta k φ = called .ensures ∙ ap (λ (x : ℤ). beta k (record { 0 = x })) (counted (start .args .n) (start .pre .3)) in
+    let found : called .result ≡ beta k φ =
+    called .ensures ∙ ap (λ (x : ℤ). beta k (record { 0 = x })) (counted (start .args .n) (start .pre .1)) in
     let size : natAbs (beta k φ .0) ≤ right-angle =
-    beta-size k (start .pre .1) (φ .0) (from-south-pole-size (start .args .n) (start .pre .3)) in
+    beta-size k (start .pre .0 .small) (φ .0) (from-south-pole-size (start .args .n) (start .pre .1)) in
     ap₂ leZ
     (ap (λ (b : Authalic). toZ w64 (ofZ w64 (b .0))) found ∙ kept (beta k φ .0) size (lit< tt))
-    (kept (start .args .beta .0) (start .pre .2) (lit< tt))
+    (kept (start .args .beta .0) (start .pre .0 .beta-size) (lit< tt))
 
 pub is-not-above-spec : {M : Type 1} → statement M
 is-not-above-spec = tie.close (tie.spec cast-t6 sub-t7 to-authalic-requires returns)

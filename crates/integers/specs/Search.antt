@@ -1,0 +1,19 @@
+-- What a search for the greatest number from 0 to n that passes a test is asked of its numbers.
+use mathlib.Core.Path.{_≡_}
+use mathlib.Core.Bool.{Bool, true}
+use Prim.Native.Nat.{ℕ, _+_, _*_, _≤_}
+
+-- A span to halve: its low end is known to pass.
+pub record Span (test : ℕ → Bool) (n low high : ℕ) : Type 0 where
+  pub ordered : low ≤ high
+  pub inside : high ≤ n
+  pub low-passes : test low ≡ true
+
+-- The margin to try after this one.
+abbrev pub widened : ℕ → ℕ
+widened margin = 16 * margin + 4
+
+-- A number and a margin about it. A margin of n reaches over all numbers, so no search needs one wider than that widened.
+pub record About (n estimate margin : ℕ) : Type 0 where
+  pub inside : estimate ≤ n
+  pub small : margin ≤ widened n
