@@ -1,5 +1,5 @@
 // One point, in degrees and metres.
-use crate::parameters::set;
+use crate::fields::set;
 use points::pairs::GeodeticPair;
 use points::pairs::GeodeticPairAnswer;
 use points::pairs::PlanePair;

@@ -1,12 +1,12 @@
 // Lists of points, in degrees and metres.
-use crate::parameters::set;
+use crate::fields::set;
 use integers::signed;
 use point_lists::ListAnswer;
 use point_lists::forward_list;
 use point_lists::inverse_list;
 ghost use mathlib.Core.Path.{_≡_};
 ghost use Prim.Native.Nat.{_≤_};
-ghost use Rattle.point_lists.specs.Lists.{longest, rowOf, list-told};
+ghost use Rattle.point_lists.specs.Lists.{longest, forwardAt, inverseAt, list-told};
 ghost use Rattle.laea_c.specs.Calls.{setOf, returned as returnedOf, ReturnsList};
 
 // The count, or the refusal number made negative.
@@ -35,7 +35,7 @@ pub extern "C" fn laea_forward_list(
     trailing: &mut [f64],
     marks: &mut [u8],
 ) -> i64
-    ensures { λ r. ⌜ ReturnsList (setOf a e2 lat0 lon0 «false_easting» «false_northing») (rowOf true) (now (latitudes .entry)) (now (longitudes .entry)) (now (leading .entry)) (now (leading .exit)) (now (trailing .entry)) (now (trailing .exit)) (now (marks .entry)) (now (marks .exit)) r ⌝ }
+    ensures { λ r. ⌜ ReturnsList (setOf a e2 lat0 lon0 «false_easting» «false_northing») forwardAt (now (latitudes .entry)) (now (longitudes .entry)) (now (leading .entry)) (now (leading .exit)) (now (trailing .entry)) (now (trailing .exit)) (now (marks .entry)) (now (marks .exit)) r ⌝ }
 {
     let p = set(a, e2, lat0, lon0, false_easting, false_northing);
     returned(forward_list(p, latitudes, longitudes, leading, trailing, marks))
@@ -56,7 +56,7 @@ pub extern "C" fn laea_inverse_list(
     longitudes: &mut [f64],
     marks: &mut [u8],
 ) -> i64
-    ensures { λ r. ⌜ ReturnsList (setOf a e2 lat0 lon0 «false_easting» «false_northing») (rowOf false) (now (leading .entry)) (now (trailing .entry)) (now (latitudes .entry)) (now (latitudes .exit)) (now (longitudes .entry)) (now (longitudes .exit)) (now (marks .entry)) (now (marks .exit)) r ⌝ }
+    ensures { λ r. ⌜ ReturnsList (setOf a e2 lat0 lon0 «false_easting» «false_northing») inverseAt (now (leading .entry)) (now (trailing .entry)) (now (latitudes .entry)) (now (latitudes .exit)) (now (longitudes .entry)) (now (longitudes .exit)) (now (marks .entry)) (now (marks .exit)) r ⌝ }
 {
     let p = set(a, e2, lat0, lon0, false_easting, false_northing);
     returned(inverse_list(p, leading, trailing, latitudes, longitudes, marks))

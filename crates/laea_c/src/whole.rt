@@ -1,5 +1,5 @@
 // One point, in mas and cm; and the cell of a position.
-use crate::parameters::set;
+use crate::fields::set;
 use azimuthal_forward::PlaneAnswer;
 use azimuthal_forward::forward;
 use azimuthal_inverse::GeodeticAnswer;

@@ -18,10 +18,17 @@ use Rattle.point_lists.specs.declared.ListAnswer.the-variants.{Count, Re
 abbrev pub longest : ℕ
 longest = 4_096
 
--- a point of a list, from degrees to metres or back: what the single call tells of it
+-- a point of a list: what the single call tells of it
+abbrev pub forwardAt : Parameters → Float → Float → Row
+forwardAt p latitude longitude = forwardRow p (degrees latitude longitude)
+
+abbrev pub inverseAt : Parameters → Float → Float → Row
+inverseAt p first second = inverseRow p (metres first second)
+
+-- forward or back
 abbrev pub rowOf : Bool → Parameters → Float → Float → Row
-rowOf true p latitude longitude = forwardRow p (degrees latitude longitude)
-rowOf false p first second = inverseRow p (metres first second)
+rowOf true = forwardAt
+rowOf false = inverseAt
 
 -- the points of two lists, at each index
 abbrev pub rows : (Float → Float → Row) → List Float → List Float → List Row

@@ -14,10 +14,9 @@ use sine_table::Table;
 use units::refusals::LONG_LISTS;
 use units::refusals::UNEQUAL_LISTS;
 ghost use mathlib.Core.Path.{_≡_};
-ghost use mathlib.Core.Bool.{true, false};
 ghost use lib.ListN.{length};
 ghost use Rattle.constants.specs.Derived.{Prepared};
-ghost use Rattle.point_lists.specs.Lists.{rowOf, rows, firstValues, secondValues, marks as marksOf, lengthRefusal, zeros, ListCall};
+ghost use Rattle.point_lists.specs.Lists.{forwardAt, inverseAt, rowOf, rows, firstValues, secondValues, marks as marksOf, lengthRefusal, zeros, ListCall};
 
 // Lists have at most this many points.
 const LONGEST: usize = 4_096;
@@ -125,7 +124,13 @@ fn list(
 ) -> ListAnswer
     ensures { λ r. ⌜ ListCall p (rowOf forward p) (now (xs .entry)) (now (ys .entry)) (now (leading .entry)) (now (leading .exit)) (now (trailing .entry)) (now (trailing .exit)) (now (marks .entry)) (now (marks .exit)) r ⌝ }
 {
-    let by_lengths = length_refusal(xs.len(), ys.len(), leading.len(), trailing.len(), marks.len());
+    let by_lengths = length_refusal(
+        xs.len(),
+        ys.len(),
+        leading.len(),
+        trailing.len(),
+        marks.len(),
+    );
     if by_lengths != 0 {
         return ListAnswer::Refused(by_lengths);
     }
@@ -157,7 +162,7 @@ pub fn forward_list(
     trailing: &mut [f64],
     marks: &mut [u8],
 ) -> ListAnswer
-    ensures { λ r. ⌜ ListCall p (rowOf true p) (now (latitudes .entry)) (now (longitudes .entry)) (now (leading .entry)) (now (leading .exit)) (now (trailing .entry)) (now (trailing .exit)) (now (marks .entry)) (now (marks .exit)) r ⌝ }
+    ensures { λ r. ⌜ ListCall p (forwardAt p) (now (latitudes .entry)) (now (longitudes .entry)) (now (leading .entry)) (now (leading .exit)) (now (trailing .entry)) (now (trailing .exit)) (now (marks .entry)) (now (marks .exit)) r ⌝ }
 {
     list(p, true, latitudes, longitudes, leading, trailing, marks)
 }
@@ -171,7 +176,7 @@ pub fn inverse_list(
     longitudes: &mut [f64],
     marks: &mut [u8],
 ) -> ListAnswer
-    ensures { λ r. ⌜ ListCall p (rowOf false p) (now (leading .entry)) (now (trailing .entry)) (now (latitudes .entry)) (now (latitudes .exit)) (now (longitudes .entry)) (now (longitudes .exit)) (now (marks .entry)) (now (marks .exit)) r ⌝ }
+    ensures { λ r. ⌜ ListCall p (inverseAt p) (now (leading .entry)) (now (trailing .entry)) (now (latitudes .entry)) (now (latitudes .exit)) (now (longitudes .entry)) (now (longitudes .exit)) (now (marks .entry)) (now (marks .exit)) r ⌝ }
 {
     list(p, false, leading, trailing, latitudes, longitudes, marks)
 }

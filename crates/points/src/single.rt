@@ -24,12 +24,7 @@ ghost use Rattle.constants.specs.Derived.{Prepared};
 ghost use Rattle.points.specs.Pairs.{plane-row, geodetic-row, forwardDegrees, forwardRow, inverseMetres, inverseRow};
 
 // A pair with an accepted set and its constants.
-pub fn forward_pair(
-    t: &Table,
-    p: Parameters,
-    k: Constants,
-    at: GeodeticPair,
-) -> PlanePairAnswer
+pub fn forward_pair(t: &Table, p: Parameters, k: Constants, at: GeodeticPair) -> PlanePairAnswer
     requires { ⌜ Prepared (now t) p k ⌝ }
     ensures { λ r. ⌜ r ≡ forwardDegrees p at ⌝ }
 {
@@ -46,12 +41,7 @@ pub fn forward_pair(
 }
 
 // A pair with an accepted set and its constants.
-pub fn inverse_pair(
-    t: &Table,
-    p: Parameters,
-    k: Constants,
-    at: PlanePair,
-) -> GeodeticPairAnswer
+pub fn inverse_pair(t: &Table, p: Parameters, k: Constants, at: PlanePair) -> GeodeticPairAnswer
     requires { ⌜ Prepared (now t) p k ⌝ }
     ensures { λ r. ⌜ r ≡ inverseMetres p at ⌝ }
 {
