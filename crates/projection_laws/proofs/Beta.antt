@@ -1,16 +1,16 @@
--- The laws of β that the projection's proofs rest on, for the coefficients of e2.
+-- The laws of β, for the coefficients of e2: those of an accepted e2 are small, and with small coefficients the series changes slower than φ.
 -- Assumes nothing.
 use lib.IntN.{pos}
-use Rattle.parameters.specs.ParameterSet.{accepted-e2}
-use Rattle.constants.specs.Derived.{seriesOf}
+use Rattle.proof_kit.proofs.Order.{order, abs-between, ≤ℤ-trans}
 use Rattle.units.proofs.Spans.{within-bounds}
 use Rattle.latitudes.proofs.AuthalicLaws.{beta-odd as odd, beta-≤, beta-north-pole, beta-south-pole}
+use Rattle.parameters.specs.ParameterSet.{accepted-e2}
+use Rattle.constants.specs.Derived.{seriesOf}
 use Rattle.constants.proofs.SeriesLaws.{series-small}
-use Rattle.proof_kit.proofs.Order.{order, abs-between, ≤ℤ-trans}
 use Rattle.projection_laws.specs.Theorems.{BetaOdd, BetaNeverFalls, BetaPoles}
 
 pub beta-odd : BetaOdd
-beta-odd e2 φ = odd (seriesOf e2) φ
+beta-odd e2 φ = odd (seriesOf e2) (φ .0)
 
 pub beta-never-falls : BetaNeverFalls
 unfolding accepted-e2

@@ -29,13 +29,14 @@ use Rattle.parameters.specs.ParameterSet.{polar, setRefusal}
 use Rattle.latitudes.proofs.AuthalicLaws.{betaMas, beta-odd, beta-north-pole, beta-south-pole}
 use Rattle.constants.specs.Derived.{seriesOf, β0, S0, C0, constantsOf}
 use Rattle.azimuthal_forward.specs.Steps.{H, b, c, u, v, w, G, dE, dN}
-use Rattle.azimuthal_forward.specs.Answer.{nearness, forwardOf, plane-told}
+use Rattle.azimuthal_forward.specs.Answer.{nearness, eastingOf, northingOf, forwardOf, plane-told}
 use Rattle.azimuthal_inverse.specs.Steps.{at-origin}
 use Rattle.azimuthal_inverse.specs.Answer.{inverseOf, geodetic-told}
 use Rattle.parameters.proofs.AcceptedSet.{accepted, lat0-size, polar-cases}
-use Rattle.azimuthal_forward.proofs.ForwardLaws.{H-least, forward-too-far, forward-plane, forward-of-accepted}
-use Rattle.azimuthal_inverse.proofs.InverseLaws.{unprojected-origin, inverse-on-plane, inverse-of-accepted}
-use Rattle.projection_laws.specs.Theorems.{CentreForward, CentreInverse, PoleForward, OppositeForward}
+use Rattle.azimuthal_forward.proofs.ForwardLaws.{H-least}
+use Rattle.azimuthal_forward.proofs.AnswerLaws.{forward-too-far, forward-plane}
+use Rattle.azimuthal_inverse.proofs.AnswerLaws.{from-origin, inverse-on-plane}
+use Rattle.projection_laws.specs.Theorems.{opposite, CentreForward, CentreInverse, PoleForward, OppositeForward}
 use Rattle.projection_laws.proofs.Tests.{on-globe-by, on-plane-by, near-enough-by, not-near-enough}
 
 some : 0 < unit
@@ -54,23 +55,22 @@ no-distance r x g e h =
 -- a position whose u and w are 0
 module _ (p : Parameters) (ok : setRefusal p ≡ 0) (φ : Geodetic) (lon : ℤ) (φ-size : natAbs (φ .0) ≤ right-angle) (lon-size : natAbs lon ≤ half-turn) where
   pub to-false-origin :
-      u (constantsOf p) (φ .0) (lon -ℤ p .lon0) ≡ pos 0 →
-      w (constantsOf p) (φ .0) (lon -ℤ p .lon0) ≡ pos 0 →
-      pos 20_000_000 ≤ℤ G (constantsOf p) (φ .0) (lon -ℤ p .lon0) →
+      u (constantsOf p) φ (lon -ℤ p .lon0) ≡ pos 0 →
+      w (constantsOf p) φ (lon -ℤ p .lon0) ≡ pos 0 →
+      pos 20_000_000 ≤ℤ G (constantsOf p) φ (lon -ℤ p .lon0) →
       forwardOf p φ lon ≡ Plane (p .«false_easting») (p .«false_northing»)
-  unfolding nearness dE dN
+  unfolding nearness eastingOf northingOf dE dN
   to-false-origin no-u no-w h =
-      forward-of-accepted p φ lon ok
-      ∙ forward-plane p φ lon (on-globe-by φ lon φ-size lon-size) (near-enough-by h)
+      forward-plane p φ lon ok (on-globe-by φ lon φ-size lon-size) (near-enough-by h)
       ∙ ap₂ (λ (x y : ℤ). Plane (p .«false_easting» +ℤ x) (p .«false_northing» +ℤ y))
-      (no-distance (constantsOf p .rd) (u (constantsOf p) (φ .0) (lon -ℤ p .lon0)) (G (constantsOf p) (φ .0) (lon -ℤ p .lon0)) no-u h)
-      (no-distance (constantsOf p .rn) (w (constantsOf p) (φ .0) (lon -ℤ p .lon0)) (G (constantsOf p) (φ .0) (lon -ℤ p .lon0)) no-w h)
+      (no-distance (constantsOf p .rd) (u (constantsOf p) φ (lon -ℤ p .lon0)) (G (constantsOf p) φ (lon -ℤ p .lon0)) no-u h)
+      (no-distance (constantsOf p .rn) (w (constantsOf p) φ (lon -ℤ p .lon0)) (G (constantsOf p) φ (lon -ℤ p .lon0)) no-w h)
       ∙ ap₂ Plane (+ℤ-idr (p .«false_easting»)) (+ℤ-idr (p .«false_northing»))
 
-  pub to-refused-4 : G (constantsOf p) (φ .0) (lon -ℤ p .lon0) <ℤ pos 20_000_000 → forwardOf p φ lon ≡ Refused 4
+  pub to-refused-4 : G (constantsOf p) φ (lon -ℤ p .lon0) <ℤ pos 20_000_000 → forwardOf p φ lon ≡ Refused 4
   unfolding nearness
   to-refused-4 h =
-      forward-of-accepted p φ lon ok ∙ forward-too-far p φ lon (on-globe-by φ lon φ-size lon-size) (not-near-enough h)
+      forward-too-far p φ lon ok (on-globe-by φ lon φ-size lon-size) (not-near-enough h)
 
 -- ---- sine² + cosine², rounded: at least U − 25
 
@@ -96,8 +96,8 @@ module _ (p : Parameters) where
   k : Constants
   k = constantsOf p
 
-  φ0 : ℤ
-  φ0 = p .lat0 .0
+  φ0 : Geodetic
+  φ0 = p .lat0
 
   S : ℤ
   S = S0 (p .e2) φ0
@@ -108,7 +108,7 @@ module _ (p : Parameters) where
   -- S0² + C0², rounded
   radius-least : pos 999_999_975 ≤ℤ near (S *ℤ S +ℤ C *ℤ C) unit
   unfolding S C S0 C0
-  radius-least = circle-least (β0 (p .e2) φ0)
+  radius-least = circle-least (β0 (p .e2) φ0 .0)
 
   -- at the centre's latitude b and c are S0 and C0; at the opposite one, −S0 and C0
   centre-b : (Δ : ℤ) → b k φ0 Δ ≡ S
@@ -119,29 +119,29 @@ module _ (p : Parameters) where
   unfolding c k φ0 C constantsOf C0 β0
   centre-c Δ = refl
 
-  opposite-b : (Δ : ℤ) → b k (negℤ φ0) Δ ≡ negℤ S
+  opposite-b : (Δ : ℤ) → b k (opposite φ0) Δ ≡ negℤ S
   unfolding b k φ0 S constantsOf S0 β0
   opposite-b Δ = ap sine (beta-odd (seriesOf (p .e2)) (p .lat0 .0)) ∙ sine-odd (betaMas (seriesOf (p .e2)) (p .lat0 .0))
 
-  opposite-c : (Δ : ℤ) → c k (negℤ φ0) Δ ≡ C
+  opposite-c : (Δ : ℤ) → c k (opposite φ0) Δ ≡ C
   unfolding c k φ0 C constantsOf C0 β0
   opposite-c Δ = ap cosine (beta-odd (seriesOf (p .e2)) (p .lat0 .0)) ∙ cosine-even (betaMas (seriesOf (p .e2)) (p .lat0 .0))
 
   -- w and G, where b and v are known
-  w-by : (φ Δ : ℤ) {x y : ℤ} → b k φ Δ ≡ x → v k φ Δ ≡ y → w k φ Δ ≡ near (C *ℤ x -ℤ S *ℤ y) unit
+  w-by : (φ : Geodetic) (Δ : ℤ) {x y : ℤ} → b k φ Δ ≡ x → v k φ Δ ≡ y → w k φ Δ ≡ near (C *ℤ x -ℤ S *ℤ y) unit
   unfolding w k S C φ0 constantsOf
   w-by φ Δ e f = ap₂ (λ (x y : ℤ). near (C *ℤ x -ℤ S *ℤ y) unit) e f
 
-  G-by : (φ Δ : ℤ) {x y : ℤ} → b k φ Δ ≡ x → v k φ Δ ≡ y → G k φ Δ ≡ U +ℤ near (S *ℤ x +ℤ C *ℤ y) unit
+  G-by : (φ : Geodetic) (Δ : ℤ) {x y : ℤ} → b k φ Δ ≡ x → v k φ Δ ≡ y → G k φ Δ ≡ U +ℤ near (S *ℤ x +ℤ C *ℤ y) unit
   unfolding G k S C φ0 constantsOf
   G-by φ Δ e f = ap₂ (λ (x y : ℤ). U +ℤ near (S *ℤ x +ℤ C *ℤ y) unit) e f
 
   -- v is c, or −c, where the cosine of Δ is U, or −U
-  v-by : (φ Δ : ℤ) {x y : ℤ} → c k φ Δ ≡ x → cosine Δ ≡ y → v k φ Δ ≡ near (x *ℤ y) unit
+  v-by : (φ : Geodetic) (Δ : ℤ) {x y : ℤ} → c k φ Δ ≡ x → cosine Δ ≡ y → v k φ Δ ≡ near (x *ℤ y) unit
   unfolding v
   v-by φ Δ e f = ap₂ (λ (x y : ℤ). near (x *ℤ y) unit) e f
 
-  u-by : (φ Δ : ℤ) {x y : ℤ} → c k φ Δ ≡ x → sine Δ ≡ y → u k φ Δ ≡ near (x *ℤ y) unit
+  u-by : (φ : Geodetic) (Δ : ℤ) {x y : ℤ} → c k φ Δ ≡ x → sine Δ ≡ y → u k φ Δ ≡ near (x *ℤ y) unit
   unfolding u
   u-by φ Δ e f = ap₂ (λ (x y : ℤ). near (x *ℤ y) unit) e f
 
@@ -162,15 +162,15 @@ module _ (p : Parameters) where
 
   -- ---- the point opposite to the centre
 
-  opposite-v : (Δ : ℤ) → cosine Δ ≡ negℤ U → v k (negℤ φ0) Δ ≡ negℤ C
-  opposite-v Δ e = v-by (negℤ φ0) Δ (opposite-c Δ) e ∙ ap (λ (z : ℤ). near z unit) (moved C U) ∙ near-whole (negℤ C) unit some
+  opposite-v : (Δ : ℤ) → cosine Δ ≡ negℤ U → v k (opposite φ0) Δ ≡ negℤ C
+  opposite-v Δ e = v-by (opposite φ0) Δ (opposite-c Δ) e ∙ ap (λ (z : ℤ). near z unit) (moved C U) ∙ near-whole (negℤ C) unit some
     where
       moved : (x y : ℤ) → x *ℤ negℤ y ≡ negℤ x *ℤ y
       moved x y = ring (x ∷ y ∷ []) (search quote depth 40 fits 20000) tt
 
-  opposite-G : (Δ : ℤ) → cosine Δ ≡ negℤ U → G k (negℤ φ0) Δ <ℤ pos 20_000_000
+  opposite-G : (Δ : ℤ) → cosine Δ ≡ negℤ U → G k (opposite φ0) Δ <ℤ pos 20_000_000
   opposite-G Δ e =
-      rw (G-by (negℤ φ0) Δ (opposite-b Δ) (opposite-v Δ e), turned S C, near-odd (S *ℤ S +ℤ C *ℤ C) unit some)
+      rw (G-by (opposite φ0) Δ (opposite-b Δ) (opposite-v Δ e), turned S C, near-odd (S *ℤ S +ℤ C *ℤ C) unit some)
       (below (near (S *ℤ S +ℤ C *ℤ C) unit) radius-least)
     where
       turned : (x y : ℤ) → x *ℤ negℤ x +ℤ y *ℤ negℤ y ≡ negℤ (x *ℤ x +ℤ y *ℤ y)
@@ -197,14 +197,14 @@ module _ (p : Parameters) where
         rw (G-by φ0 Δ (centre-b Δ) pole-v, *ℤ-zero C, +ℤ-idr (S *ℤ S), S-square) (above U (omega order))
 
 -- C0 and S0 of a pole
-pole-C : (p : Parameters) → (φ0 p ≡ pos right-angle) ⊎ (φ0 p ≡ negℤ (pos right-angle)) → C p ≡ pos 0
-unfolding C C0 β0
+pole-C : (p : Parameters) → (p .lat0 .0 ≡ pos right-angle) ⊎ (p .lat0 .0 ≡ negℤ (pos right-angle)) → C p ≡ pos 0
+unfolding C C0 β0 φ0
 pole-C p (inl e) = ap (λ (z : ℤ). cosine (betaMas (seriesOf (p .e2)) z)) e ∙ ap cosine (beta-north-pole (seriesOf (p .e2))) ∙ cosine-right
 pole-C p (inr e) =
     ap (λ (z : ℤ). cosine (betaMas (seriesOf (p .e2)) z)) e ∙ ap cosine (beta-south-pole (seriesOf (p .e2))) ∙ cosine-even (pos right-angle) ∙ cosine-right
 
-pole-S : (p : Parameters) → (φ0 p ≡ pos right-angle) ⊎ (φ0 p ≡ negℤ (pos right-angle)) → near (S p *ℤ S p) unit ≡ U
-unfolding S S0 β0
+pole-S : (p : Parameters) → (p .lat0 .0 ≡ pos right-angle) ⊎ (p .lat0 .0 ≡ negℤ (pos right-angle)) → near (S p *ℤ S p) unit ≡ U
+unfolding S S0 β0 φ0
 pole-S p (inl e) =
     ap (λ (z : ℤ). near (z *ℤ z) unit) (ap (λ (z : ℤ). sine (betaMas (seriesOf (p .e2)) z)) e ∙ ap sine (beta-north-pole (seriesOf (p .e2))) ∙ sine-right)
     ∙ near-whole U unit some
@@ -217,7 +217,7 @@ pole-S p (inr e) =
 
 module _ (p : Parameters) (ok : setRefusal p ≡ 0) where
   φ0-size : natAbs (p .lat0 .0) ≤ right-angle
-  φ0-size = lat0-size (p .lat0 .0) (accepted p ok .lat0-accepted)
+  φ0-size = lat0-size (p .lat0) (accepted p ok .lat0-accepted)
 
   pub centre-plane : forwardOf p (p .lat0) (p .lon0) ≡ Plane (p .«false_easting») (p .«false_northing»)
   unfolding k φ0
@@ -228,23 +228,23 @@ module _ (p : Parameters) (ok : setRefusal p ≡ 0) where
   pub centre-position : inverseOf p (p .«false_easting») (p .«false_northing») ≡ Position (p .lat0) (p .lon0)
   unfolding at-origin same within
   centre-position =
-      inverse-of-accepted p (p .«false_easting») (p .«false_northing») ok
-      ∙ inverse-on-plane p (p .«false_easting») (p .«false_northing») (on-plane-by (p .«false_easting») (p .«false_northing») (le-trans (accepted p ok .easting-size) (lit≤ tt)) (le-trans (accepted p ok .northing-size) (lit≤ tt)))
-      ∙ unprojected-origin p (constantsOf p) (p .«false_easting» -ℤ p .«false_easting») (p .«false_northing» -ℤ p .«false_northing») (rw (none (p .«false_easting»), none (p .«false_northing»)) refl)
+      inverse-on-plane p (p .«false_easting») (p .«false_northing») ok
+      (on-plane-by (p .«false_easting») (p .«false_northing») (le-trans (accepted p ok .easting-size) (lit≤ tt)) (le-trans (accepted p ok .northing-size) (lit≤ tt)))
+      ∙ from-origin p (constantsOf p) (p .«false_easting» -ℤ p .«false_easting») (p .«false_northing» -ℤ p .«false_northing») (rw (none (p .«false_easting»), none (p .«false_northing»)) refl)
 
-  pub pole-plane : polar (p .lat0 .0) ≡ true → (lon : ℤ) → natAbs lon ≤ half-turn → forwardOf p (p .lat0) lon ≡ Plane (p .«false_easting») (p .«false_northing»)
+  pub pole-plane : polar (p .lat0) ≡ true → (lon : ℤ) → natAbs lon ≤ half-turn → forwardOf p (p .lat0) lon ≡ Plane (p .«false_easting») (p .«false_northing»)
   unfolding k φ0
   pole-plane is-pole lon size =
-      let cases = polar-cases (p .lat0 .0) is-pole in
+      let cases = polar-cases (p .lat0) is-pole in
       let no-C = pole-C p cases in
       let S-square = pole-S p cases in
       to-false-origin p ok (p .lat0) lon φ0-size size
       (pole-u p no-C S-square (lon -ℤ p .lon0)) (pole-w p no-C S-square (lon -ℤ p .lon0)) (pole-G p no-C S-square (lon -ℤ p .lon0))
 
-  pub opposite-refused : (lon : ℤ) → natAbs lon ≤ half-turn → natAbs (lon -ℤ p .lon0) ≡ half-turn → forwardOf p (record { 0 = negℤ (p .lat0 .0) }) lon ≡ Refused 4
+  pub opposite-refused : (lon : ℤ) → natAbs lon ≤ half-turn → natAbs (lon -ℤ p .lon0) ≡ half-turn → forwardOf p (opposite (p .lat0)) lon ≡ Refused 4
   unfolding k φ0
   opposite-refused lon size half =
-      to-refused-4 p ok (record { 0 = negℤ (p .lat0 .0) }) lon (rw (abs-neg (p .lat0 .0)) φ0-size) size
+      to-refused-4 p ok (opposite (p .lat0)) lon (rw (abs-neg (p .lat0 .0)) φ0-size) size
       (opposite-G p (lon -ℤ p .lon0) (half-cosine (lon -ℤ p .lon0) half))
     where
       cosine-half : cosine (pos half-turn) ≡ negℤ U

@@ -22,11 +22,11 @@ use Rattle.units.specs.Spans.{within, same}
 use Rattle.parameters.specs.ParameterSet.{setRefusal}
 use Rattle.constants.specs.Derived.{RD, constantsOf}
 use Rattle.azimuthal_forward.specs.Steps.{near-enough}
-use Rattle.azimuthal_inverse.specs.Steps.{G, K, X, Y, versineOf, at-origin, on-map, unprojected}
-use Rattle.azimuthal_inverse.specs.Answer.{inverseOf, geodetic-told}
+use Rattle.azimuthal_inverse.specs.Steps.{G, K, X, Y, versineOf, at-origin, on-map}
+use Rattle.azimuthal_inverse.specs.Answer.{answerFrom, inverseOf, geodetic-told}
 use Rattle.parameters.proofs.AcceptedSet.{accepted}
 use Rattle.constants.proofs.ConstantsLaws.{Sound, sound}
-use Rattle.azimuthal_inverse.proofs.InverseLaws.{unprojected-too-far, inverse-on-plane, inverse-of-accepted}
+use Rattle.azimuthal_inverse.proofs.AnswerLaws.{from-too-far, inverse-on-plane}
 use Rattle.projection_laws.specs.Theorems.{EdgeInverse}
 use Rattle.projection_laws.proofs.Tests.{first-fails, second-fails, size-within, on-plane-by}
 
@@ -96,10 +96,9 @@ module _ (p : Parameters) (ok : setRefusal p ≡ 0) where
   edge-refused : inverseOf p E (p .«false_northing») ≡ Refused 4
   unfolding constantsOf
   edge-refused =
-      inverse-of-accepted p E (p .«false_northing») ok
-      ∙ inverse-on-plane p E (p .«false_northing») (on-plane-by E (p .«false_northing») E-size N-size)
-      ∙ ap₂ (unprojected p (constantsOf p)) edge-dE (+ℤ-invr (p .«false_northing»))
-      ∙ unprojected-too-far p (constantsOf p) (pos 2 *ℤ RD p) (pos 0) (edge-not-origin (constantsOf p) (sound p ok)) (edge-on-map (constantsOf p) (sound p ok)) (edge-too-far (constantsOf p) (sound p ok))
+      inverse-on-plane p E (p .«false_northing») ok (on-plane-by E (p .«false_northing») E-size N-size)
+      ∙ ap₂ (answerFrom p (constantsOf p)) edge-dE (+ℤ-invr (p .«false_northing»))
+      ∙ from-too-far p (constantsOf p) (pos 2 *ℤ RD p) (pos 0) (edge-not-origin (constantsOf p) (sound p ok)) (edge-on-map (constantsOf p) (sound p ok)) (edge-too-far (constantsOf p) (sound p ok))
 
 pub edge-inverse : EdgeInverse
 unfolding constantsOf E

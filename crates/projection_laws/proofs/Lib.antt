@@ -1,4 +1,5 @@
 pub mod Tests
+pub mod Chains
 pub mod Beta
 pub mod Centre
 pub mod Edge

@@ -1,7 +1,7 @@
 -- The range of the inverse's answers, and the forward answers at −180° and 180°, which are a full turn apart.
 -- Assumes nothing.
 use mathlib.Core.Path.{_≡_, refl, sym, ap, _∙_, subst}
-use mathlib.Core.Bool.{Bool, true, false}
+use mathlib.Core.Bool.{Bool, true, false, cond}
 use mathlib.Core.List.{[], _∷_}
 use Prim.Native.Nat.{ℕ, zero, suc, _≤_}
 use lib.Dec.{lit≤}
@@ -19,73 +19,81 @@ use Rattle.latitudes.specs.declared.Authalic.{Authalic}
 use Rattle.latitudes.specs.declared.AuthalicSeries.{AuthalicSeries}
 use Rattle.parameters.specs.declared.Parameters.{Parameters}
 use Rattle.constants.specs.declared.Constants.{Constants}
-use Rattle.azimuthal_inverse.specs.declared.SpherePoint.{SpherePoint}
 use Rattle.azimuthal_inverse.specs.declared.GeodeticAnswer.{GeodeticAnswer}
-use Rattle.azimuthal_inverse.specs.declared.GeodeticAnswer.the-variants.{Position, Refused as NotFound}
-use Rattle.units.specs.Spans.{within, on-plane}
+use Rattle.azimuthal_inverse.specs.declared.GeodeticAnswer.the-variants.{Position}
+use Rattle.units.specs.Spans.{within, on-plane, wrapped}
+use Rattle.units.specs.Refusals.{unless}
+use Rattle.units.specs.Answers.{Told, accepted, told}
 use Rattle.parameters.specs.ParameterSet.{setRefusal}
 use Rattle.latitudes.specs.Latitude.{not-above, geodetic}
 use Rattle.constants.specs.Derived.{constantsOf}
-use Rattle.azimuthal_forward.specs.Steps.{b, c, u, v, w, G, dE, dN, near-enough, forwardPoint}
-use Rattle.azimuthal_forward.specs.Answer.{nearness, on-globe, forwardOf}
-use Rattle.azimuthal_inverse.specs.Steps.{latitudeOf, longitudeOf, positionOf, at-origin, on-map, K, found, unprojected, inversePoint, pick, after, G as inverseG}
-use Rattle.azimuthal_inverse.specs.Answer.{inverseOf, geodetic-told}
-use Rattle.parameters.proofs.AcceptedSet.{Accepted, accepted, lat0-size}
+use Rattle.azimuthal_forward.specs.Steps.{b, c, u, v, w, G, dE, dN}
+use Rattle.azimuthal_forward.specs.Answer.{on-globe, nearness, forwardFar, forwardRefusal, eastingOf, northingOf, forwardOf}
+use Rattle.azimuthal_inverse.specs.Steps.{latitudeOf, longitudeOf, at-origin, found}
+use Rattle.azimuthal_inverse.specs.Answer.{latitudeFrom, longitudeFrom, inverseFar, inverseRefusal, inverseLatitude, inverseLongitude}
+use Rattle.azimuthal_inverse.specs.Answer.{geodetic-told, inverseOf, inverseTold}
+use Rattle.azimuthal_inverse.proofs.AnswerLaws.{inverse-tells}
+use Rattle.parameters.proofs.AcceptedSet.{Accepted, accepted as accepted-set, lat0-size}
 use Rattle.latitudes.proofs.GeodeticLaws.{from-south-pole-size}
 use Rattle.azimuthal_inverse.proofs.AngleLaws.{longitude-size}
 use Rattle.units.proofs.Spans.{wrapped-range}
 use Rattle.projection_laws.specs.Theorems.{InverseRange, HalfTurnAlike}
+use Rattle.projection_laws.proofs.Chains.{first-passed}
 
 -- ---- the inverse
-
--- what the theorem says of one answer
-abbrev InRange : GeodeticAnswer → Type 0
-InRange x =
-    (natAbs (geodetic-told x .first) ≤ right-angle) × (negℤ (pos half-turn) <ℤ geodetic-told x .second) × (geodetic-told x .second ≤ℤ pos half-turn)
-
-refused-range : (n : ℕ) → InRange (NotFound n)
-refused-range n = (lit≤ tt, omega order, omega order)
-
-pick-range : (t : Bool) (x y : GeodeticAnswer) → InRange x → InRange y → InRange (pick t x y)
-pick-range true x y h l = h
-pick-range false x y h l = l
-
--- the set is accepted where the point is asked
-after-range : (n : ℕ) (x : GeodeticAnswer) → (n ≡ 0 → InRange x) → InRange (after n x)
-after-range zero x h = h refl
-after-range (suc n) x h = refused-range (suc n)
 
 geodetic-size : (k : AuthalicSeries) (β : Authalic) → natAbs (geodetic k β .0) ≤ right-angle
 unfolding geodetic
 geodetic-size k β = from-south-pole-size _ (greatest-le (not-above k β) half-turn)
 
-position-range : (k : AuthalicSeries) (lon0 : ℤ) (s : SpherePoint) → natAbs lon0 ≤ half-turn → InRange (positionOf k lon0 s)
-unfolding positionOf
-position-range k lon0 s h =
-    let r = wrapped-range (lon0 +ℤ longitudeOf s) (abs-add-le lon0 (longitudeOf s) h (longitude-size s)) in
-    (geodetic-size k (latitudeOf s), r .0, r .1)
+-- the latitude and the longitude, for any constants: the centre's own, or those of the point that the steps find
+module _ (p : Parameters) (ok : Accepted p) (k : Constants) (dE dN : ℤ) where
+  latitude-range : natAbs (latitudeFrom p k dE dN .0) ≤ right-angle
+  unfolding latitudeFrom
+  latitude-range = at (at-origin dE dN)
+    where
+      at : (t : Bool) → natAbs (cond t (p .lat0) (geodetic (k .series) (latitudeOf (found k dE dN))) .0) ≤ right-angle
+      at true = lat0-size (p .lat0) (ok .lat0-accepted)
+      at false = geodetic-size (k .series) (latitudeOf (found k dE dN))
 
-unprojected-range : (p : Parameters) → Accepted p → (k : Constants) (dE dN : ℤ) → InRange (unprojected p k dE dN)
-unfolding unprojected
-unprojected-range p ok k dE dN =
-    pick-range (at-origin dE dN) _ _
-    (lat0-size (p .lat0 .0) (ok .lat0-accepted), ok .lon0-above, abs-upper (p .lon0) (ok .lon0-size))
-    (pick-range (on-map k dE dN) _ _
-    (pick-range (near-enough (inverseG (K k dE dN))) _ _ (position-range (k .series) (p .lon0) (found k dE dN) (ok .lon0-size)) (refused-range 4))
-    (refused-range 4))
+  longitude-range : (negℤ (pos half-turn) <ℤ longitudeFrom p k dE dN) × (longitudeFrom p k dE dN ≤ℤ pos half-turn)
+  unfolding longitudeFrom
+  longitude-range = at (at-origin dE dN)
+    where
+      Δ : ℤ
+      Δ = longitudeOf (found k dE dN)
 
+      at : (t : Bool) → (negℤ (pos half-turn) <ℤ cond t (p .lon0) (wrapped (p .lon0 +ℤ Δ))) × (cond t (p .lon0) (wrapped (p .lon0 +ℤ Δ)) ≤ℤ pos half-turn)
+      at true = (ok .lon0-above, abs-upper (p .lon0) (ok .lon0-size))
+      at false = wrapped-range (p .lon0 +ℤ Δ) (abs-add-le (p .lon0) Δ (ok .lon0-size) (longitude-size (found k dE dN)))
+
+-- what the theorem says of one answer: a refused one tells 0 and 0
+abbrev InRange : Told → Type 0
+InRange t = (natAbs (t .first) ≤ right-angle) × (negℤ (pos half-turn) <ℤ t .second) × (t .second ≤ℤ pos half-turn)
+
+told-range : (n : ℕ) (lat lon : ℤ) → (n ≡ 0 → InRange (accepted lat lon)) → InRange (told n lat lon)
+told-range zero lat lon h = h refl
+told-range (suc n) lat lon h = (lit≤ tt, omega order, omega order)
+
+-- where the number is 0 the set is accepted
 pub inverse-range : InverseRange
-unfolding inverseOf inversePoint
+unfolding inverseTold inverseRefusal inverseLatitude inverseLongitude
 inverse-range p E N =
-    after-range (setRefusal p) _
-    (λ ok. pick-range (on-plane E N) _ _ (unprojected-range p (accepted p ok) (constantsOf p) (E -ℤ p .«false_easting») (N -ℤ p .«false_northing»)) (refused-range 3))
+    subst InRange (sym (inverse-tells p E N))
+    (told-range (inverseRefusal p E N) (inverseLatitude p E N .0) (inverseLongitude p E N)
+    (λ passed.
+    let ok = accepted-set p (first-passed (setRefusal p) (unless (on-plane E N) 3 (inverseFar p E N)) passed) in
+    let dE = E -ℤ p .«false_easting» in
+    let dN = N -ℤ p .«false_northing» in
+    let longitude = longitude-range p ok (constantsOf p) dE dN in
+    (latitude-range p ok (constantsOf p) dE dN, longitude .0, longitude .1)))
 
 -- the same of a position that is answered
 pub position-in-range :
     (p : Parameters) (E N : ℤ) (φ : Geodetic) (lon : ℤ) →
     inverseOf p E N ≡ Position φ lon →
     (natAbs (φ .0) ≤ right-angle) × (negℤ (pos half-turn) <ℤ lon) × (lon ≤ℤ pos half-turn)
-position-in-range p E N φ lon e = subst InRange e (inverse-range p E N)
+position-in-range p E N φ lon e = subst (λ (x : GeodeticAnswer). InRange (geodetic-told x)) e (inverse-range p E N)
 
 -- ---- the forward answer at −180° and 180°
 
@@ -97,7 +105,7 @@ cosine-full-turn t =
     swapped x y z = ring (x ∷ y ∷ z ∷ []) (search quote depth 40 fits 20000) tt
 
 -- u, v and so every step are those of Δ + 360°
-module _ (k : Constants) (φ Δ : ℤ) where
+module _ (k : Constants) (φ : Geodetic) (Δ : ℤ) where
   u-turn : u k φ (Δ +ℤ pos full-turn) ≡ u k φ Δ
   unfolding u c
   u-turn = rw (sine-full-turn Δ) refl
@@ -127,11 +135,11 @@ unfolding on-globe within
 half-turn-globe φ = refl
 
 pub half-turn-alike : HalfTurnAlike
-unfolding forwardOf forwardPoint nearness
+unfolding forwardOf forwardRefusal forwardFar nearness eastingOf northingOf
 half-turn-alike p φ =
     let e : pos half-turn -ℤ p .lon0 ≡ (negℤ (pos half-turn) -ℤ p .lon0) +ℤ pos full-turn = turned (p .lon0) in
     let Δ : ℤ = negℤ (pos half-turn) -ℤ p .lon0 in
-    rw (half-turn-globe φ, e, G-turn (constantsOf p) (φ .0) Δ, dE-turn (constantsOf p) (φ .0) Δ, dN-turn (constantsOf p) (φ .0) Δ) refl
+    rw (half-turn-globe φ, e, G-turn (constantsOf p) φ Δ, dE-turn (constantsOf p) φ Δ, dN-turn (constantsOf p) φ Δ) refl
   where
     turned : (x : ℤ) → pos half-turn -ℤ x ≡ (negℤ (pos half-turn) -ℤ x) +ℤ pos full-turn
     turned x = ring (x ∷ []) (search quote depth 40 fits 20000) tt

@@ -1,117 +1,90 @@
--- An answer that is refused has 1, 3 or 4, so what is told decides the answer.
+-- Which refusals the calls in whole units give: the chains of `forwardRefusal` and `inverseRefusal` have no other number. An answer is refused where its
+-- number is not 0 and carries that number, so what is told decides the answer.
 -- Assumes nothing.
-use mathlib.Core.Path.{_≡_, refl, ap, ap₂, subst}
-use mathlib.Core.Bool.{Bool, true, false}
+use mathlib.Core.Path.{_≡_, refl, sym, ap, ap₂, _∙_, subst}
+use mathlib.Core.List.{List, _∷_}
 use mathlib.Core.Logic.{inl, inr}
-use Prim.Native.Nat.{ℕ, zero, suc, _≤_, zero-le}
-use native.Mathlib.Nat.{le-refl}
+use Prim.Native.Nat.{ℕ, zero, suc}
 use native.Mathlib.Omega.{arith}
-use lib.IntN.{ℤ, _-ℤ_}
+use lib.IntN.{ℤ}
+use Rattle.units.specs.Answers.{Told, accepted, told}
 use Rattle.latitudes.specs.declared.Geodetic.{Geodetic}
-use Rattle.parameters.specs.declared.Parameters.{Parameters}
-use Rattle.azimuthal_forward.specs.declared.PlaneAnswer.{PlaneAnswer}
-use Rattle.azimuthal_forward.specs.declared.PlaneAnswer.the-variants.{Plane, Refused}
-use Rattle.azimuthal_inverse.specs.declared.GeodeticAnswer.{GeodeticAnswer}
+use Rattle.parameters.specs.ParameterSet.{setRefusal}
+use Rattle.azimuthal_forward.specs.declared.PlaneAnswer.the-variants.{Refused}
+use Rattle.azimuthal_forward.specs.Answer.{forwardFar, forwardRefusal, eastingOf, northingOf, planeAnswer, forwardOf, forwardTold}
+use Rattle.azimuthal_forward.proofs.AnswerLaws.{forward-tells}
 use Rattle.azimuthal_inverse.specs.declared.GeodeticAnswer.the-variants.{Position, Refused as NotFound}
-use Rattle.units.specs.Refusals.{unless}
-use Rattle.parameters.specs.ParameterSet.{accepted-a, accepted-e2, accepted-lat0, accepted-lon0, accepted-false, firstRefusal, setRefusal}
-use Rattle.constants.specs.Derived.{constantsOf}
-use Rattle.azimuthal_forward.specs.Steps.{near-enough, forwardPoint, pick, after}
-use Rattle.azimuthal_forward.specs.Answer.{nearness, on-globe, forwardOf, plane-told}
-use Rattle.azimuthal_inverse.specs.Steps.{G, K, at-origin, on-map, positionOf, unprojected, inversePoint, pick as pick-geodetic, after as after-geodetic}
-use Rattle.azimuthal_inverse.specs.Answer.{inverseOf, geodetic-told}
-use Rattle.units.specs.Spans.{on-plane}
-use Rattle.units.specs.Answers.{Told, accepted}
-use Rattle.projection_laws.specs.Theorems.{OneOfThree, ForwardNumbers, InverseNumbers, ForwardDecided, InverseDecided}
+use Rattle.azimuthal_inverse.specs.Answer.{farFrom, inverseFar, inverseRefusal, inverseLatitude, inverseLongitude}
+use Rattle.azimuthal_inverse.specs.Answer.{geodeticAnswer, inverseOf, inverseTold}
+use Rattle.azimuthal_inverse.proofs.AnswerLaws.{inverse-tells}
+use Rattle.projection_laws.specs.Theorems.{latitude, OneOf, whole-refusals, ForwardNumbers, InverseNumbers, ForwardRefused, InverseRefused}
+use Rattle.projection_laws.specs.Theorems.{ForwardDecided, InverseDecided}
+use Rattle.projection_laws.proofs.Chains.{Gives, chain}
 
--- ---- a set's own refusal is 0 or 1
-
-unless-most : (t : Bool) {n : ℕ} → n ≤ 1 → unless t 1 n ≤ 1
-unless-most true h = h
-unless-most false h = le-refl 1
-
-pub set-refusal-most : (p : Parameters) → setRefusal p ≤ 1
-unfolding setRefusal firstRefusal
-set-refusal-most p =
-    unless-most (accepted-a (p .a)) (unless-most (accepted-e2 (p .e2)) (unless-most (accepted-lat0 (p .lat0 .0)) (unless-most (accepted-lon0 (p .lon0)) (unless-most (accepted-false (p .«false_easting»)) (unless-most (accepted-false (p .«false_northing»)) zero-le)))))
-
-only-one : (n : ℕ) → suc n ≤ 1 → suc n ≡ 1
-only-one n h = omega arith
-
--- ---- 1, 3 or 4: kept by each test
-
-abbrev PlaneNumbered : PlaneAnswer → Type 0
-PlaneNumbered (Plane E N) = Unit {0}
-PlaneNumbered (Refused n) = OneOfThree n
-
-abbrev GeodeticNumbered : GeodeticAnswer → Type 0
-GeodeticNumbered (Position φ lon) = Unit {0}
-GeodeticNumbered (NotFound n) = OneOfThree n
-
-three : OneOfThree 3
-three = inr (inl refl)
-
-four : OneOfThree 4
-four = inr (inr refl)
-
-plane-kept : (t : Bool) (x y : PlaneAnswer) → PlaneNumbered x → PlaneNumbered y → PlaneNumbered (pick t x y)
-plane-kept true x y h l = h
-plane-kept false x y h l = l
-
-geodetic-kept : (t : Bool) (x y : GeodeticAnswer) → GeodeticNumbered x → GeodeticNumbered y → GeodeticNumbered (pick-geodetic t x y)
-geodetic-kept true x y h l = h
-geodetic-kept false x y h l = l
-
-plane-after-kept : (n : ℕ) → n ≤ 1 → (x : PlaneAnswer) → PlaneNumbered x → PlaneNumbered (after n x)
-plane-after-kept zero h x l = l
-plane-after-kept (suc n) h x l = inl (only-one n h)
-
-geodetic-after-kept : (n : ℕ) → n ≤ 1 → (x : GeodeticAnswer) → GeodeticNumbered x → GeodeticNumbered (after-geodetic n x)
-geodetic-after-kept zero h x l = l
-geodetic-after-kept (suc n) h x l = inl (only-one n h)
-
-forward-numbered : (p : Parameters) (φ : Geodetic) (lon : ℤ) → PlaneNumbered (forwardOf p φ lon)
-unfolding forwardOf forwardPoint
-forward-numbered p φ lon =
-    plane-after-kept (setRefusal p) (set-refusal-most p) _
-    (plane-kept (on-globe φ lon) _ (Refused 3) (plane-kept (near-enough (nearness p φ lon)) _ (Refused 4) tt four) three)
-
-inverse-numbered : (p : Parameters) (E N : ℤ) → GeodeticNumbered (inverseOf p E N)
-unfolding inverseOf inversePoint unprojected positionOf
-inverse-numbered p E N =
-    let dE = E -ℤ p .«false_easting» in
-    let dN = N -ℤ p .«false_northing» in
-    let k = constantsOf p in
-    geodetic-after-kept (setRefusal p) (set-refusal-most p) _
-    (geodetic-kept (on-plane E N) _ (NotFound 3)
-    (geodetic-kept (at-origin dE dN) (Position (p .lat0) (p .lon0)) _ tt
-    (geodetic-kept (on-map k dE dN) _ (NotFound 4) (geodetic-kept (near-enough (G (K k dE dN))) _ (NotFound 4) tt four) four))
-    three)
+-- ---- the numbers of the chains
 
 pub forward-numbers : ForwardNumbers
-forward-numbers p φ lon n e = subst PlaneNumbered e (forward-numbered p φ lon)
+unfolding forwardRefusal setRefusal forwardFar
+forward-numbers p φ lon =
+    let number : Gives (0 ∷ whole-refusals) (forwardRefusal p φ lon) = search chain depth 40 in
+    number .one
 
 pub inverse-numbers : InverseNumbers
-inverse-numbers p E N n e = subst GeodeticNumbered e (inverse-numbered p E N)
+unfolding inverseRefusal setRefusal inverseFar farFrom
+inverse-numbers p E N =
+    let number : Gives (0 ∷ whole-refusals) (inverseRefusal p E N) = search chain depth 40 in
+    number .one
+
+-- ---- the answers
+
+nothing : {n : ℕ} → suc n ≡ 0 → ⊥
+nothing e = omega arith
+
+-- an answer that is refused by k has the number k, which is not 0
+plane-number : (n : ℕ) (E N : ℤ) (k : ℕ) → planeAnswer n E N ≡ Refused k → (n ≡ k) × (k ≡ 0 → ⊥)
+plane-number zero E N k e = let z : _≡_ {A = ℕ} 1 0 = cc in absurd (nothing z)
+plane-number (suc n) E N k e =
+    let is : suc n ≡ k = cc in
+    (is, λ z. nothing (is ∙ z))
+
+geodetic-number : (n : ℕ) (φ : Geodetic) (lon : ℤ) (k : ℕ) → geodeticAnswer n φ lon ≡ NotFound k → (n ≡ k) × (k ≡ 0 → ⊥)
+geodetic-number zero φ lon k e = let z : _≡_ {A = ℕ} 1 0 = cc in absurd (nothing z)
+geodetic-number (suc n) φ lon k e =
+    let is : suc n ≡ k = cc in
+    (is, λ z. nothing (is ∙ z))
+
+-- a number that is not 0 is one of the others
+another : (numbers : List ℕ) (n k : ℕ) → OneOf (0 ∷ numbers) n → (n ≡ k) × (k ≡ 0 → ⊥) → OneOf numbers k
+another numbers n k (inl e) is = absurd (is .1 (sym (is .0) ∙ e))
+another numbers n k (inr h) is = subst (OneOf numbers) (is .0) h
+
+pub forward-refused : ForwardRefused
+unfolding forwardOf
+forward-refused p φ lon n e =
+    another whole-refusals (forwardRefusal p φ lon) n (forward-numbers p φ lon)
+    (plane-number (forwardRefusal p φ lon) (eastingOf p φ lon) (northingOf p φ lon) n e)
+
+pub inverse-refused : InverseRefused
+unfolding inverseOf
+inverse-refused p E N n e =
+    another whole-refusals (inverseRefusal p E N) n (inverse-numbers p E N)
+    (geodetic-number (inverseRefusal p E N) (inverseLatitude p E N) (inverseLongitude p E N) n e)
 
 -- ---- what is told decides the answer
 
-pub not-zero : {n : ℕ} → OneOfThree n → n ≡ 0 → ⊥
-not-zero (inl e) z = omega arith
-not-zero (inr (inl e)) z = omega arith
-not-zero (inr (inr e)) z = omega arith
-
-plane-from : (x : PlaneAnswer) (E N : ℤ) → PlaneNumbered x → plane-told x ≡ accepted E N → x ≡ Plane E N
-plane-from (Plane E′ N′) E N h e = ap₂ Plane (ap (λ (t : Told). t .first) e) (ap (λ (t : Told). t .second) e)
-plane-from (Refused n) E N h e = absurd (not-zero h (ap (λ (t : Told). t .refusal) e))
-
-geodetic-from : (x : GeodeticAnswer) (lat lon : ℤ) → GeodeticNumbered x → geodetic-told x ≡ accepted lat lon → x ≡ Position (record { 0 = lat }) lon
-geodetic-from (Position φ lon′) lat lon h e =
-    ap₂ (λ (x y : ℤ). Position (record { 0 = x }) y) (ap (λ (t : Told). t .first) e) (ap (λ (t : Told). t .second) e)
-geodetic-from (NotFound n) lat lon h e = absurd (not-zero h (ap (λ (t : Told). t .refusal) e))
+-- where two values are told, the number is 0 and the values are these
+told-values : (n : ℕ) (a b a′ b′ : ℤ) → told n a b ≡ accepted a′ b′ → (n ≡ 0) × (a ≡ a′) × (b ≡ b′)
+told-values zero a b a′ b′ e = (refl, ap (λ (t : Told). t .first) e, ap (λ (t : Told). t .second) e)
+told-values (suc n) a b a′ b′ e = absurd (nothing (ap (λ (t : Told). t .refusal) e))
 
 pub forward-decided : ForwardDecided
-forward-decided p φ lon E N e = plane-from (forwardOf p φ lon) E N (forward-numbered p φ lon) e
+unfolding forwardOf forwardTold
+forward-decided p φ lon E N e =
+    let is = told-values (forwardRefusal p φ lon) (eastingOf p φ lon) (northingOf p φ lon) E N (sym (forward-tells p φ lon) ∙ e) in
+    rw (is .0, is .1, is .2)
 
 pub inverse-decided : InverseDecided
-inverse-decided p E N lat lon e = geodetic-from (inverseOf p E N) lat lon (inverse-numbered p E N) e
+unfolding inverseOf inverseTold
+inverse-decided p E N lat lon e =
+    let is = told-values (inverseRefusal p E N) (inverseLatitude p E N .0) (inverseLongitude p E N) lat lon (sym (inverse-tells p E N) ∙ e) in
+    rw (is .0) (ap₂ (λ (x y : ℤ). Position (latitude x) y) (is .1) (is .2))

@@ -10,22 +10,22 @@ use lib.IntN.{ℤ, pos, negℤ, natAbs, _*ℤ_}
 use lib.Signed.{_<ℤ_, leZ}
 use Rattle.proof_kit.proofs.Order.{order, lt-leZ}
 use Rattle.units.specs.Spans.{within, same, on-plane}
-use Rattle.parameters.specs.ParameterSet.{polar, accepted-a, accepted-e2, accepted-lat0, accepted-lon0, accepted-false, firstRefusal, setRefusal, etrsLaea}
+use Rattle.parameters.specs.ParameterSet.{polar, accepted-a, accepted-e2, accepted-lat0, accepted-lon0, accepted-false, setRefusal, etrsLaea}
 use Rattle.constants.specs.Derived.{constantsOf}
 use Rattle.azimuthal_forward.specs.Answer.{on-globe, plane-told}
 use Rattle.azimuthal_inverse.specs.Steps.{at-origin, on-map}
 use Rattle.units.proofs.Spans.{Between}
 use Rattle.constants.proofs.ConstantsLaws.{sound}
-use Rattle.azimuthal_forward.proofs.ForwardLaws.{forward-off-globe, forward-of-accepted, forward-of-refused}
-use Rattle.azimuthal_inverse.proofs.InverseLaws.{unprojected-off-map, inverse-off-plane, inverse-on-plane, inverse-of-accepted, inverse-of-refused}
+use Rattle.azimuthal_forward.proofs.AnswerLaws.{forward-set-refused, forward-off-globe}
+use Rattle.azimuthal_inverse.proofs.AnswerLaws.{from-off-map, inverse-set-refused, inverse-off-plane, inverse-on-plane}
 use Rattle.azimuthal_inverse.specs.Answer.{geodetic-told}
-use Rattle.projection_laws.specs.Theorems.{sizeless, ForwardWitnesses, InverseWitnesses}
+use Rattle.projection_laws.specs.Theorems.{latitude, sizeless, ForwardWitnesses, InverseWitnesses}
 use Rattle.projection_laws.proofs.Centre.{centre-forward, centre-inverse, opposite-forward}
 use Rattle.projection_laws.proofs.Tests.{first-fails, second-fails, on-plane-by}
 
 -- the two sets, tested
 sets : (setRefusal etrsLaea ≡ 0) × (setRefusal sizeless ≡ 1)
-unfolding setRefusal firstRefusal accepted-a accepted-e2 accepted-lat0 polar same accepted-lon0 accepted-false within
+unfolding setRefusal accepted-a accepted-e2 accepted-lat0 polar same accepted-lon0 accepted-false within
 sets = (refl, refl)
 
 not-none : _≡_ {A = ℕ} 1 0 → ⊥
@@ -33,15 +33,15 @@ not-none e = omega arith
 
 -- ---- forward
 
-beyond-pole : on-globe (record { 0 = pos 324_000_001 }) (pos 0) ≡ false
+beyond-pole : on-globe (latitude (pos 324_000_001)) (pos 0) ≡ false
 unfolding on-globe within
 beyond-pole = refl
 
 pub forward-witnesses : ForwardWitnesses
 forward-witnesses = (
   centre-forward etrsLaea (sets .0),
-  ap plane-told (forward-of-refused sizeless (record { 0 = pos 187_200_000 }) (pos 36_000_000) 1 not-none (sets .1)),
-  ap plane-told (forward-of-accepted etrsLaea (record { 0 = pos 324_000_001 }) (pos 0) (sets .0) ∙ forward-off-globe etrsLaea (record { 0 = pos 324_000_001 }) (pos 0) beyond-pole),
+  ap plane-told (forward-set-refused sizeless (latitude (pos 187_200_000)) (pos 36_000_000) 1 not-none (sets .1)),
+  ap plane-told (forward-off-globe etrsLaea (latitude (pos 324_000_001)) (pos 0) (sets .0) beyond-pole),
   opposite-forward etrsLaea (sets .0) (negℤ (pos 612_000_000)) (lit≤ tt) refl,
 )
 
@@ -71,10 +71,9 @@ not-origin = refl
 pub inverse-witnesses : InverseWitnesses
 inverse-witnesses = (
   centre-inverse etrsLaea (sets .0),
-  ap geodetic-told (inverse-of-refused sizeless (pos 432_100_000) (pos 321_000_000) 1 not-none (sets .1)),
-  ap geodetic-told (inverse-of-accepted etrsLaea (pos 5_000_000_001) (pos 0) (sets .0) ∙ inverse-off-plane etrsLaea (pos 5_000_000_001) (pos 0) beyond-plane),
+  ap geodetic-told (inverse-set-refused sizeless (pos 432_100_000) (pos 321_000_000) 1 not-none (sets .1)),
+  ap geodetic-told (inverse-off-plane etrsLaea (pos 5_000_000_001) (pos 0) (sets .0) beyond-plane),
   ap geodetic-told
-      (inverse-of-accepted etrsLaea (pos 5_000_000_000) (pos 0) (sets .0)
-      ∙ inverse-on-plane etrsLaea (pos 5_000_000_000) (pos 0) (on-plane-by (pos 5_000_000_000) (pos 0) (lit≤ tt) (lit≤ tt))
-      ∙ unprojected-off-map etrsLaea (constantsOf etrsLaea) (pos 4_567_900_000) (negℤ (pos 321_000_000)) not-origin (off-map (negℤ (pos 321_000_000)))),
+      (inverse-on-plane etrsLaea (pos 5_000_000_000) (pos 0) (sets .0) (on-plane-by (pos 5_000_000_000) (pos 0) (lit≤ tt) (lit≤ tt))
+      ∙ from-off-map etrsLaea (constantsOf etrsLaea) (pos 4_567_900_000) (negℤ (pos 321_000_000)) not-origin (off-map (negℤ (pos 321_000_000)))),
 )

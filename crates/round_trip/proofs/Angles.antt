@@ -17,7 +17,8 @@ use Rattle.constants.specs.declared.Constants.{Constants}
 use Rattle.latitudes.specs.declared.Geodetic.{Geodetic}
 use Rattle.parameters.specs.declared.Parameters.{Parameters}
 use Rattle.azimuthal_inverse.specs.declared.SpherePoint.{SpherePoint}
-use Rattle.latitudes.proofs.AuthalicLaws.{betaMas, beta-size}
+use Rattle.latitudes.specs.Latitude.{beta}
+use Rattle.latitudes.proofs.AuthalicLaws.{beta-size}
 use Rattle.azimuthal_forward.specs.Steps.{b, c, u, v, dE, dN}
 use Rattle.azimuthal_inverse.specs.Steps.{found}
 use Rattle.azimuthal_inverse.proofs.AngleLaws.{radius}
@@ -49,21 +50,21 @@ unfolding turnGap
 gap-most d = omega arith
 
 -- the answer for the shifts of the position (φ, lon)
-module _ {p : Parameters} {k : Constants} {φ : Geodetic} (lon : ℤ) (g : Given k (φ .0) (lon -ℤ p .lon0))
-    (a : Answer p k (dE k (φ .0) (lon -ℤ p .lon0)) (dN k (φ .0) (lon -ℤ p .lon0))) where
+module _ {p : Parameters} {k : Constants} {φ : Geodetic} (lon : ℤ) (g : Given k φ (lon -ℤ p .lon0))
+    (a : Answer p k (dE k φ (lon -ℤ p .lon0)) (dN k φ (lon -ℤ p .lon0))) where
   abbrev Δ : ℤ
   Δ = lon -ℤ p .lon0
 
   abbrev s : SpherePoint
-  s = found k (dE k (φ .0) Δ) (dN k (φ .0) Δ)
+  s = found k (dE k φ Δ) (dN k φ Δ)
 
   -- ---- the latitude
 
   abbrev β : ℤ
-  β = betaMas (k .series) (φ .0)
+  β = beta (k .series) φ .0
 
   -- R is close to c
-  R-near : natAbs (pos (radius s) -ℤ c k (φ .0) Δ) ≤ ER
+  R-near : natAbs (pos (radius s) -ℤ c k φ Δ) ≤ ER
   R-near = rw (c-natural g) at (close-steps g .R-close)
 
   -- R and z have the direction of β, but for ER and Ez
@@ -86,7 +87,7 @@ module _ {p : Parameters} {k : Constants} {φ : Geodetic} (lon : ℤ) (g : Given
 
   -- c, as a natural number
   abbrev c-size : ℕ
-  c-size = natAbs (c k (φ .0) Δ)
+  c-size = natAbs (c k φ Δ)
 
   -- f and east have c / U times the direction of Δ, but for Ez + 1 and E1 + 1; d is the difference of the longitudes, brought to the gap by whole turns
   longitude-aim : 24 * (turnGap (a .lon′ -ℤ lon) * c-size) ≤ (5 * (Ez + 1 + (E1 + 1)) + 34) * unit
@@ -97,8 +98,8 @@ module _ {p : Parameters} {k : Constants} {φ : Geodetic} (lon : ℤ) (g : Given
       let d : ℤ = a .lon′ -ℤ lon +ℤ gap .turns *ℤ pos full-turn in
       rw (gap .attained)
       (aim c-size (Ez + 1) (E1 + 1) (s .f) (s .east) Δ (a .Δ′) d (negℤ (a .turns +ℤ gap .turns)) (F .c-least) (F .c-most)
-      (rounded-scaled (s .f) (v k (φ .0) Δ) (pos c-size *ℤ cosine Δ) (near .f-close) (F .near-v))
-      (rounded-scaled (s .east) (u k (φ .0) Δ) (pos c-size *ℤ sine Δ) (near .east-close) (F .near-u))
+      (rounded-scaled (s .f) (v k φ Δ) (pos c-size *ℤ cosine Δ) (near .f-close) (F .near-v))
+      (rounded-scaled (s .east) (u k φ Δ) (pos c-size *ℤ sine Δ) (near .east-close) (F .near-u))
       (lit≤ tt) (a .longitude)
       (from-lon0 (p .lon0) lon (a .lon′) (a .Δ′) (a .turns) (gap .turns) (a .lon′-is))
       (rw (gap .attained) at (gap-most (a .lon′ -ℤ lon))))
@@ -110,5 +111,5 @@ module _ {p : Parameters} {k : Constants} {φ : Geodetic} (lon : ℤ) (g : Given
           ring-from (lon0 ∷ lon ∷ lon′ ∷ Δ′ ∷ i ∷ j ∷ []) (negℤ (pos 1)) e (search quote depth 40 fits 20000) tt
 
   -- so the longitude gap is at most 53.5
-  pub longitude-bound : (pos 2 *ℤ (pos (turnGap (a .lon′ -ℤ lon)) *ℤ c k (φ .0) (lon -ℤ p .lon0))) ≤ℤ pos (107 * unit)
+  pub longitude-bound : (pos 2 *ℤ (pos (turnGap (a .lon′ -ℤ lon)) *ℤ c k φ (lon -ℤ p .lon0))) ≤ℤ pos (107 * unit)
   longitude-bound = rw (← (c-natural g)) (pos-≤ℤ (omega (arith, longitude-aim)))

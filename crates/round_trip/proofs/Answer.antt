@@ -31,13 +31,14 @@ use Rattle.azimuthal_inverse.specs.declared.SpherePoint.{SpherePoint}
 use Rattle.azimuthal_inverse.specs.declared.GeodeticAnswer.the-variants.{Position}
 use Rattle.units.specs.Spans.{same, within, wrapped}
 use Rattle.latitudes.proofs.AuthalicLaws.{betaMas, beta-slope, beta-size}
-use Rattle.latitudes.specs.Latitude.{SmallSeries, geodetic}
+use Rattle.latitudes.specs.Latitude.{SmallSeries, beta, geodetic}
 use Rattle.azimuthal_forward.specs.Steps.{H, near-enough}
-use Rattle.azimuthal_inverse.specs.Steps.{versineOf, G, up, level, zOf, fOf, pointOf, X, Y, K, found, latitudeOf, longitudeOf, positionOf, at-origin, on-map, unprojected}
+use Rattle.azimuthal_inverse.specs.Steps.{versineOf, G, up, level, zOf, fOf, pointOf, X, Y, K, found, latitudeOf, longitudeOf, at-origin, on-map}
+use Rattle.azimuthal_inverse.specs.Answer.{answerFrom}
 use Rattle.units.proofs.Spans.{Between, same-equal, wrapped-low, wrapped-high, wrapped-between}
 use Rattle.integers.proofs.Greatest.{both}
 use Rattle.constants.proofs.ConstantsLaws.{Sound}
-use Rattle.azimuthal_inverse.proofs.InverseLaws.{unprojected-origin, unprojected-position}
+use Rattle.azimuthal_inverse.proofs.AnswerLaws.{from-origin, from-position}
 use Rattle.azimuthal_inverse.proofs.AngleLaws.{radius, latitude-size}
 use Rattle.round_trip.proofs.Numerals.{unit}
 use Rattle.round_trip.proofs.Tools.{squares}
@@ -46,8 +47,8 @@ use Rattle.round_trip.proofs.Latitude.{geodetic-close}
 
 -- S0 and C0 are sine and cosine of the β of φ0
 pub record Centred (p : Parameters) (k : Constants) : Type 0 where
-  pub s0-is : k .s0 ≡ sine (betaMas (k .series) (p .lat0 .0))
-  pub c0-is : k .c0 ≡ cosine (betaMas (k .series) (p .lat0 .0))
+  pub s0-is : k .s0 ≡ sine (beta (k .series) (p .lat0) .0)
+  pub c0-is : k .c0 ≡ cosine (beta (k .series) (p .lat0) .0)
   pub lat0-most : natAbs (p .lat0 .0) ≤ right-angle
 
 -- the position (φ′, lon′), which comes from the angles β′ and Δ′ of the point that the steps find
@@ -57,11 +58,11 @@ pub record Answer (p : Parameters) (k : Constants) (dE dN : ℤ) : Type 0 where
   pub β′ : ℤ
   pub Δ′ : ℤ
   pub turns : ℤ
-  pub answered : unprojected p k dE dN ≡ Position φ′ lon′
+  pub answered : answerFrom p k dE dN ≡ Position φ′ lon′
   pub β′-size : natAbs β′ ≤ right-angle
   pub latitude : Sector (pos (radius (found k dE dN))) (found k dE dN .z) β′
   pub longitude : Sector (found k dE dN .f) (found k dE dN .east) Δ′
-  pub φ′-close : (φ : Geodetic) → natAbs (φ .0) ≤ right-angle → natAbs (β′ -ℤ betaMas (k .series) (φ .0)) ≤ 96 → natAbs (φ′ .0 -ℤ φ .0) ≤ 98
+  pub φ′-close : (φ : Geodetic) → natAbs (φ .0) ≤ right-angle → natAbs (β′ -ℤ beta (k .series) φ .0) ≤ 96 → natAbs (φ′ .0 -ℤ φ .0) ≤ 98
   pub lon′-is : lon′ ≡ p .lon0 +ℤ Δ′ +ℤ turns *ℤ pos full-turn
 
 -- ---- a point that is not the centre
@@ -96,7 +97,6 @@ own-longitude s = angle-sector (s .f) (s .east)
 module _ (p : Parameters) (k : Constants) (sound : Sound k) (dE dN : ℤ) where
   -- the answer that the steps compute
   away : at-origin dE dN ≡ false → on-map k dE dN ≡ true → near-enough (G (K k dE dN)) ≡ true → Answer p k dE dN
-  unfolding positionOf
   away e f g =
       let s : SpherePoint = found k dE dN in
       record {
@@ -105,7 +105,7 @@ module _ (p : Parameters) (k : Constants) (sound : Sound k) (dE dN : ℤ) where
         β′ = latitudeOf s .0;
         Δ′ = longitudeOf s;
         turns = turned (p .lon0 +ℤ longitudeOf s) .turns;
-        answered = unprojected-position p k dE dN e f g;
+        answered = from-position p k dE dN e f g;
         β′-size = latitude-size s;
         latitude = own-latitude s;
         longitude = own-longitude s;
@@ -201,7 +201,7 @@ length x = rw (squares (pos 0) x) (root-is (0 * 0 + natAbs x * natAbs x) (natAbs
 module _ (p : Parameters) (k : Constants) (sound : Sound k) (centred : Centred p k) where
   -- the β of φ0
   abbrev β0 : ℤ
-  β0 = betaMas (k .series) (p .lat0 .0)
+  β0 = beta (k .series) (p .lat0) .0
 
   β0-size : natAbs β0 ≤ right-angle
   β0-size = beta-size (k .series) (sound .small) (p .lat0 .0) (centred .lat0-most)
@@ -226,7 +226,7 @@ module _ (p : Parameters) (k : Constants) (sound : Sound k) (centred : Centred p
         β′ = β0;
         Δ′ = pos 0;
         turns = pos 0;
-        answered = unprojected-origin p k (pos 0) (pos 0) refl;
+        answered = from-origin p k (pos 0) (pos 0) refl;
         β′-size = β0-size;
         latitude = subst (λ (s : SpherePoint). Sector (pos (radius s)) (s .z) β0) (sym (found-zero k sound)) centre-latitude;
         longitude = subst (λ (s : SpherePoint). Sector (s .f) (s .east) (pos 0)) (sym (found-zero k sound)) (zero-sector (k .c0) c0-nonneg);

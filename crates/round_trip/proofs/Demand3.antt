@@ -15,53 +15,25 @@ use Rattle.proof_kit.proofs.Ring.{ring, quote}
 use Rattle.constants.specs.declared.Constants.{Constants}
 use Rattle.latitudes.specs.declared.Geodetic.{Geodetic}
 use Rattle.parameters.specs.declared.Parameters.{Parameters}
-use Rattle.azimuthal_forward.specs.declared.PlaneAnswer.{PlaneAnswer}
-use Rattle.azimuthal_forward.specs.declared.PlaneAnswer.the-variants.{Plane, Refused}
 use Rattle.azimuthal_inverse.specs.declared.GeodeticAnswer.{GeodeticAnswer}
-use Rattle.units.specs.Spans.{within}
+use Rattle.units.specs.Spans.{within, on-plane}
 use Rattle.parameters.specs.ParameterSet.{setRefusal}
 use Rattle.constants.specs.Derived.{β0, S0, C0, constantsOf}
-use Rattle.azimuthal_forward.specs.Steps.{c, dE, dN, near-enough, forwardPoint}
-use Rattle.azimuthal_forward.specs.Answer.{nearness, on-globe, forwardOf}
-use Rattle.azimuthal_inverse.specs.Steps.{G as G′, K, on-map, unprojected}
-use Rattle.azimuthal_inverse.specs.Answer.{inverseOf}
+use Rattle.azimuthal_forward.specs.Steps.{c, dE, dN, near-enough}
+use Rattle.azimuthal_forward.specs.Answer.{nearness, eastingOf, northingOf}
+use Rattle.azimuthal_inverse.specs.Steps.{G as G′, K, on-map}
+use Rattle.azimuthal_inverse.specs.Answer.{answerFrom, inverseOf}
 use Rattle.units.proofs.Spans.{Between}
 use Rattle.parameters.proofs.AcceptedSet.{accepted, lat0-size}
 use Rattle.constants.proofs.ConstantsLaws.{sound}
-use Rattle.azimuthal_forward.proofs.ForwardLaws.{forward-off-globe, forward-plane, forward-of-accepted}
-use Rattle.azimuthal_inverse.proofs.InverseLaws.{inverse-on-plane, inverse-of-accepted}
+use Rattle.azimuthal_inverse.proofs.AnswerLaws.{inverse-on-plane}
 use Rattle.round_trip.specs.RoundTrip.{farthest-latitude, latitude-bound as latitude-limit, gap-bound, sharp-latitude-bound, sharp-gap-halves, longitudeGap, CloseTo, RoundTripAt, SharpRoundTrip, Demand3}
 use Rattle.round_trip.proofs.Numerals.{unit}
+use Rattle.round_trip.proofs.Accepted.{Accepted, accepted-forward}
 use Rattle.round_trip.proofs.Limits.{circle-of, within-limits, forward-on-plane}
 use Rattle.round_trip.proofs.Steps.{Given, close-steps}
 use Rattle.round_trip.proofs.Answer.{Centred, Answer, answer}
 use Rattle.round_trip.proofs.Angles.{latitude-bound, longitude-bound}
-
--- ---- the forward answer
-
--- an accepted answer's easting and northing
-eastingOf : PlaneAnswer → ℤ
-eastingOf (Plane E N) = E
-eastingOf (Refused n) = pos 0
-
-northingOf : PlaneAnswer → ℤ
-northingOf (Plane E N) = N
-northingOf (Refused n) = pos 0
-
--- 0 of an accepted answer, 1 of a refusal
-numberOf : PlaneAnswer → ℕ
-numberOf (Plane E N) = 0
-numberOf (Refused n) = 1
-
--- a refusal is not an accepted answer
-not-refused : (n : ℕ) (E N : ℤ) → _≡_ {A = PlaneAnswer} (Refused n) (Plane E N) → ⊥
-unfolding numberOf
-not-refused n E N e = let z : _≡_ {A = ℕ} 1 0 = ap numberOf e in omega arith
-
--- equal answers have equal eastings and northings
-same-plane : (E N E′ N′ : ℤ) → _≡_ {A = PlaneAnswer} (Plane E N) (Plane E′ N′) → (E ≡ E′) × (N ≡ N′)
-unfolding eastingOf northingOf
-same-plane E N E′ N′ e = (ap eastingOf e, ap northingOf e)
 
 module _ (p : Parameters) (φ : Geodetic) (lon : ℤ) where
   abbrev k : Constants
@@ -71,32 +43,20 @@ module _ (p : Parameters) (φ : Geodetic) (lon : ℤ) where
   Δ = lon -ℤ p .lon0
 
   abbrev eastward : ℤ
-  eastward = dE k (φ .0) Δ
+  eastward = dE k φ Δ
 
   abbrev northward : ℤ
-  northward = dN k (φ .0) Δ
-
-  -- it is the false origin and the shifts
-  forward-is : (E N : ℤ) → setRefusal p ≡ 0 → near-enough (nearness p φ lon) ≡ true → forwardOf p φ lon ≡ Plane E N →
-      (p .«false_easting» +ℤ eastward ≡ E) × (p .«false_northing» +ℤ northward ≡ N)
-  forward-is E N ok near e = at (on-globe φ lon) refl
-    where
-      point : forwardPoint p φ lon ≡ Plane E N
-      point = sym (forward-of-accepted p φ lon ok) ∙ e
-
-      at : (t : Bool) → on-globe φ lon ≡ t → (p .«false_easting» +ℤ eastward ≡ E) × (p .«false_northing» +ℤ northward ≡ N)
-      at true on = same-plane (p .«false_easting» +ℤ eastward) (p .«false_northing» +ℤ northward) E N (sym (forward-plane p φ lon on near) ∙ point)
-      at false off = absurd (not-refused 3 E N (sym (forward-off-globe p φ lon off) ∙ point))
+  northward = dN k φ Δ
 
   -- ---- what is given of the set and the position
 
   -- S0 and C0 are those of φ0
   centred : setRefusal p ≡ 0 → Centred p k
   unfolding constantsOf S0 C0 β0
-  centred ok = record { s0-is = refl; c0-is = refl; lat0-most = lat0-size (p .lat0 .0) (accepted p ok .lat0-accepted) }
+  centred ok = record { s0-is = refl; c0-is = refl; lat0-most = lat0-size (p .lat0) (accepted p ok .lat0-accepted) }
 
   -- what the steps ask
-  given : setRefusal p ≡ 0 → natAbs (φ .0) ≤ farthest-latitude → pos unit ≤ℤ nearness p φ lon → Given k (φ .0) Δ
+  given : setRefusal p ≡ 0 → natAbs (φ .0) ≤ farthest-latitude → pos unit ≤ℤ nearness p φ lon → Given k φ Δ
   unfolding nearness
   given ok latitude near = record { sound = sound p ok; centre = circle-of p; latitude = latitude; near-centre = near }
 
@@ -108,14 +68,14 @@ module _ (p : Parameters) (φ : Geodetic) (lon : ℤ) where
       subst (λ (x : ℤ). within (negℤ (pos 2 *ℤ x)) (pos 2 *ℤ x) d ≡ true) (between .natural) (within-limits (2 * natAbs r) d h)
 
   -- both shifts are
-  shifts-on-map : Given k (φ .0) Δ → on-map k eastward northward ≡ true
+  shifts-on-map : Given k φ Δ → on-map k eastward northward ≡ true
   unfolding on-map
   shifts-on-map g =
       let near = close-steps g in
       ap₂ _&&_ (on-axis (k .rd) eastward (g .sound .rd-between) (near .dE-size)) (on-axis (k .rn) northward (g .sound .rn-between) (near .dN-size))
 
   -- and near enough
-  shifts-near : Given k (φ .0) Δ → near-enough (G′ (K k eastward northward)) ≡ true
+  shifts-near : Given k φ Δ → near-enough (G′ (K k eastward northward)) ≡ true
   unfolding near-enough G′
   shifts-near g = le-leZ (close-steps g .G-least)
 
@@ -124,18 +84,17 @@ module _ (p : Parameters) (φ : Geodetic) (lon : ℤ) where
   less-origin f d z e = ap (λ (x : ℤ). x -ℤ f) (sym e) ∙ ring (f ∷ d ∷ []) (search quote depth 40 fits 20000) tt
 
   -- so it takes the steps from the shifts
-  inverse-is : (E N : ℤ) → setRefusal p ≡ 0 → near-enough (nearness p φ lon) ≡ true → forwardOf p φ lon ≡ Plane E N →
-      inverseOf p E N ≡ unprojected p k eastward northward
-  inverse-is E N ok near e =
-      let there = forward-is E N ok near e in
-      inverse-of-accepted p E N ok
-      ∙ inverse-on-plane p E N (forward-on-plane p φ lon E N e)
-      ∙ ap₂ (unprojected p k) (less-origin (p .«false_easting») eastward E (there .0)) (less-origin (p .«false_northing») northward N (there .1))
+  inverse-is : (E N : ℤ) → Accepted p φ lon E N → on-plane E N ≡ true → inverseOf p E N ≡ answerFrom p k eastward northward
+  unfolding eastingOf northingOf
+  inverse-is E N there plane =
+      inverse-on-plane p E N (there .set-accepted) plane
+      ∙ ap₂ (answerFrom p k)
+      (less-origin (p .«false_easting») eastward E (there .easting)) (less-origin (p .«false_northing») northward N (there .northing))
 
   -- ---- the round trip
 
   -- an answer for the shifts is close to the position
-  close-answer : (g : Given k (φ .0) Δ) → Answer p k eastward northward → (result : GeodeticAnswer) → result ≡ unprojected p k eastward northward → CloseTo sharp-latitude-bound sharp-gap-halves 2 p φ lon result
+  close-answer : (g : Given k φ Δ) → Answer p k eastward northward → (result : GeodeticAnswer) → result ≡ answerFrom p k eastward northward → CloseTo sharp-latitude-bound sharp-gap-halves 2 p φ lon result
   unfolding longitudeGap constantsOf c
   close-answer g a result e =
       record {
@@ -146,20 +105,13 @@ module _ (p : Parameters) (φ : Geodetic) (lon : ℤ) where
         longitude-close = longitude-bound lon g a;
       }
 
-  -- a nearness of U is enough for the forward steps
-  enough : pos unit ≤ℤ nearness p φ lon → near-enough (nearness p φ lon) ≡ true
-  unfolding near-enough
-  enough near =
-      let far : pos 20_000_000 ≤ℤ nearness p φ lon = ≤ℤ-trans (omega order) near in
-      le-leZ far
-
   -- the bounds that the proof gives
   round-trip : RoundTripAt sharp-latitude-bound sharp-gap-halves 2 p φ lon
   unfolding RoundTripAt
   round-trip E N ok latitude e near =
       let g = given ok latitude near in
       let a = answer p k (sound p ok) (centred ok) eastward northward (shifts-on-map g) (shifts-near g) in
-      close-answer g a (inverseOf p E N) (inverse-is E N ok (enough near) e)
+      close-answer g a (inverseOf p E N) (inverse-is E N (accepted-forward p φ lon E N e) (forward-on-plane p φ lon E N e))
 
 -- at most 98 mas, and 53.5
 pub sharp : SharpRoundTrip

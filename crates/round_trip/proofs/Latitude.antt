@@ -1,7 +1,7 @@
 -- Back from β to the geodetic latitude: the greatest latitude whose β is not above one that is at most 96 mas from the β of φ is at most 98 mas from φ,
 -- because β rises by at least 0.993 for each mas, but for one.
 -- Assumes nothing.
-use mathlib.Core.Path.{_≡_}
+use mathlib.Core.Path.{_≡_, ap}
 use mathlib.Core.Bool.{true, false}
 use mathlib.Core.List.{[], _∷_}
 use Prim.Native.Nat.{ℕ, _+_, _-_, _<_, _≤_}
@@ -19,8 +19,8 @@ use Rattle.units.specs.Units.{right-angle, half-turn}
 use Rattle.latitudes.specs.declared.AuthalicSeries.{AuthalicSeries}
 use Rattle.latitudes.specs.declared.Authalic.{Authalic}
 use Rattle.latitudes.specs.declared.Geodetic.{Geodetic}
-use Rattle.latitudes.proofs.AuthalicLaws.{betaMas, beta-slope}
-use Rattle.latitudes.specs.Latitude.{SmallSeries, from-south-pole, not-above, geodetic}
+use Rattle.latitudes.proofs.AuthalicLaws.{mas, beta-slope}
+use Rattle.latitudes.specs.Latitude.{SmallSeries, beta, from-south-pole, not-above, geodetic}
 
 -- ---- two latitudes n mas apart, whose β are x and y
 
@@ -38,20 +38,20 @@ above-lower x y z slope close =
 
 module _ (k : AuthalicSeries) (small : SmallSeries k) (β′ : Authalic) where
   -- how much β rises from m to m + n
-  slope : (m n : ℕ) → (pos 993 *ℤ pos n -ℤ pos 1000) ≤ℤ (pos 1000 *ℤ (betaMas k (from-south-pole (m + n)) -ℤ betaMas k (from-south-pole m)))
+  slope : (m n : ℕ) → (pos 993 *ℤ pos n -ℤ pos 1000) ≤ℤ (pos 1000 *ℤ (beta k (from-south-pole (m + n)) .0 -ℤ beta k (from-south-pole m) .0))
   unfolding from-south-pole
   slope m n = rw (moved (pos m) (pos n) (pos right-angle)) (beta-slope k small n (pos m -ℤ pos right-angle))
     where
       moved : (x y r : ℤ) → x +ℤ y -ℤ r ≡ x -ℤ r +ℤ y
       moved x y r = ring (x ∷ y ∷ r ∷ []) (search quote depth 40 fits 20000) tt
 
-  module _ (m : ℕ) (m-most : m ≤ half-turn) (close : natAbs (β′ .0 -ℤ betaMas k (from-south-pole m)) ≤ 96) where
+  module _ (m : ℕ) (m-most : m ≤ half-turn) (close : natAbs (β′ .0 -ℤ beta k (from-south-pole m) .0) ≤ 96) where
     -- more than 98 north of m, no latitude passes the test
     fails : (j : ℕ) → m + 98 < j → not-above k β′ j ≡ false
     unfolding not-above
     fails j far =
         let e : m + (j - m) ≡ j = omega arith in
-        lt-leZ (below-higher (j - m) (betaMas k (from-south-pole m)) (betaMas k (from-south-pole j)) (β′ .0) (omega arith) (rw e at (slope m (j - m))) close)
+        lt-leZ (below-higher (j - m) (beta k (from-south-pole m) .0) (beta k (from-south-pole j) .0) (β′ .0) (omega arith) (rw e at (slope m (j - m))) close)
 
     -- so the greatest is at most 98 north of m
     found-most : greatest (not-above k β′) half-turn ≤ m + 98
@@ -64,7 +64,7 @@ module _ (k : AuthalicSeries) (small : SmallSeries k) (β′ : Authalic) where
     -- 98 south of m, the latitude passes the test
     passes : (j : ℕ) → j + 98 ≡ m → not-above k β′ j ≡ true
     unfolding not-above
-    passes j e = le-leZ (above-lower (betaMas k (from-south-pole j)) (betaMas k (from-south-pole m)) (β′ .0) (rw e at (slope j 98)) close)
+    passes j e = le-leZ (above-lower (beta k (from-south-pole j) .0) (beta k (from-south-pole m) .0) (β′ .0) (rw e at (slope j 98)) close)
 
     -- so the greatest is at most 98 south of m
     found-least : m ≤ greatest (not-above k β′) half-turn + 98
@@ -75,7 +75,7 @@ module _ (k : AuthalicSeries) (small : SmallSeries k) (β′ : Authalic) where
         at (no h) = omega (arith, greatest-ge (not-above k β′) half-turn (m - 98) (omega arith) (passes (m - 98) (omega arith)))
 
     -- the two as latitudes
-    counted-close : natAbs (geodetic k β′ .0 -ℤ from-south-pole m) ≤ 98
+    counted-close : natAbs (geodetic k β′ .0 -ℤ from-south-pole m .0) ≤ 98
     unfolding geodetic from-south-pole
     counted-close =
         rw (apart (pos (greatest (not-above k β′) half-turn)) (pos m) (pos right-angle))
@@ -87,12 +87,15 @@ module _ (k : AuthalicSeries) (small : SmallSeries k) (β′ : Authalic) where
 -- ---- any latitude
 
 -- a latitude by its count from the South Pole
-count-of : (φ : ℤ) → natAbs φ ≤ right-angle → from-south-pole (natAbs (φ +ℤ pos right-angle)) ≡ φ
+count-of : (φ : Geodetic) → natAbs (φ .0) ≤ right-angle → from-south-pole (natAbs (φ .0 +ℤ pos right-angle)) ≡ φ
 unfolding from-south-pole
-count-of φ h =
-    let z : ℤ = φ +ℤ pos right-angle in
-    by-parts (pos (natAbs z) -ℤ pos right-angle) φ
-    (omega (arith, natAbs-parts φ, natAbs-parts z, one-part z, parts-+ φ (pos right-angle), parts-- (pos (natAbs z)) (pos right-angle)))
+count-of φ h = ap mas (counted (φ .0) h)
+  where
+    counted : (x : ℤ) → natAbs x ≤ right-angle → pos (natAbs (x +ℤ pos right-angle)) -ℤ pos right-angle ≡ x
+    counted x size =
+        let z : ℤ = x +ℤ pos right-angle in
+        by-parts (pos (natAbs z) -ℤ pos right-angle) x
+        (omega (arith, natAbs-parts x, natAbs-parts z, one-part z, parts-+ x (pos right-angle), parts-- (pos (natAbs z)) (pos right-angle)))
 
 -- the count ends at the North Pole
 count-most : (φ : ℤ) → natAbs φ ≤ right-angle → natAbs (φ +ℤ pos right-angle) ≤ half-turn
@@ -100,7 +103,7 @@ count-most φ h = omega (arith, natAbs-parts φ, natAbs-parts (φ +ℤ pos right
 
 -- the geodetic latitude of a β near that of φ is near φ
 pub geodetic-close : (k : AuthalicSeries) → SmallSeries k → (φ : Geodetic) (β′ : Authalic) → natAbs (φ .0) ≤ right-angle →
-    natAbs (β′ .0 -ℤ betaMas k (φ .0)) ≤ 96 → natAbs (geodetic k β′ .0 -ℤ φ .0) ≤ 98
+    natAbs (β′ .0 -ℤ beta k φ .0) ≤ 96 → natAbs (geodetic k β′ .0 -ℤ φ .0) ≤ 98
 geodetic-close k small φ β′ h close =
-    let is : from-south-pole (natAbs (φ .0 +ℤ pos right-angle)) ≡ φ .0 = count-of (φ .0) h in
+    let is : from-south-pole (natAbs (φ .0 +ℤ pos right-angle)) ≡ φ = count-of φ h in
     rw is at (counted-close k small β′ (natAbs (φ .0 +ℤ pos right-angle)) (count-most (φ .0) h) (rw is close))

@@ -1,10 +1,10 @@
 -- Every accepted forward answer lies within the plane's limits, so refusal 3 of the inverse never meets one.
 -- The rounded point (u, w, G − U) lies near the sphere of radius U, so u² + w² is little more than 2 U G, and H² is U G / 2: u and w are at most 3 H, where 2 H is the truth.
 -- Assumes nothing.
-use mathlib.Core.Path.{_≡_, refl, sym, ap₂, subst}
-use mathlib.Core.Bool.{Bool, true, false, _&&_}
+use mathlib.Core.Path.{_≡_, sym, ap₂, subst}
+use mathlib.Core.Bool.{true, _&&_}
 use mathlib.Core.List.{[], _∷_}
-use Prim.Native.Nat.{ℕ, zero, suc, _+_, _*_, _<_, _≤_}
+use Prim.Native.Nat.{ℕ, _+_, _*_, _<_, _≤_}
 use native.Mathlib.Nat.{le-refl, le-trans, mul-le-mul}
 use native.Mathlib.Omega.{arith}
 use lib.Dec.{lit<, lit≤}
@@ -21,17 +21,17 @@ use Rattle.trig.proofs.Interface.{near-circle}
 use Rattle.latitudes.specs.declared.Geodetic.{Geodetic}
 use Rattle.parameters.specs.declared.Parameters.{Parameters}
 use Rattle.constants.specs.declared.Constants.{Constants}
-use Rattle.azimuthal_forward.specs.declared.PlaneAnswer.{PlaneAnswer}
-use Rattle.azimuthal_forward.specs.declared.PlaneAnswer.the-variants.{Plane, Refused}
+use Rattle.azimuthal_forward.specs.declared.PlaneAnswer.the-variants.{Plane}
 use Rattle.units.specs.Spans.{within, on-plane}
 use Rattle.parameters.specs.ParameterSet.{setRefusal}
-use Rattle.latitudes.proofs.AuthalicLaws.{betaMas}
+use Rattle.latitudes.specs.Latitude.{beta}
 use Rattle.constants.specs.Derived.{β0, S0, C0, constantsOf}
-use Rattle.azimuthal_forward.specs.Steps.{H, b, c, u, v, w, G, dE, dN, near-enough, pick, after, forwardPoint}
-use Rattle.azimuthal_forward.specs.Answer.{nearness, on-globe, forwardOf}
+use Rattle.azimuthal_forward.specs.Steps.{H, b, c, u, v, w, G, dE, dN, near-enough}
+use Rattle.azimuthal_forward.specs.Answer.{nearness, eastingOf, northingOf, forwardOf}
 use Rattle.parameters.proofs.AcceptedSet.{accepted}
 use Rattle.constants.proofs.ConstantsLaws.{Sound, sound}
 use Rattle.azimuthal_forward.proofs.ForwardLaws.{b-size, c-size, u-size, v-size, w-size, sum-size, H-least}
+use Rattle.round_trip.proofs.Accepted.{accepted-forward}
 use Rattle.round_trip.proofs.Forward.{three-circles}
 use Rattle.round_trip.proofs.Numerals.{unit, half}
 use Rattle.round_trip.proofs.Rounding.{near-unit, scale-root}
@@ -84,9 +84,9 @@ shift R x H H-least R-most x-most =
 -- S0 and C0 are the sine and cosine of one angle
 pub circle-of : (p : Parameters) → OnCircle (constantsOf p .s0) (constantsOf p .c0)
 unfolding constantsOf S0 C0
-circle-of p = near-circle (β0 (p .e2) (p .lat0 .0))
+circle-of p = near-circle (β0 (p .e2) (p .lat0) .0)
 
-module _ (k : Constants) (sound-k : Sound k) (centre : OnCircle (k .s0) (k .c0)) (φ Δ : ℤ) (enough : pos 20_000_000 ≤ℤ G k φ Δ) where
+module _ (k : Constants) (sound-k : Sound k) (centre : OnCircle (k .s0) (k .c0)) (φ : Geodetic) (Δ : ℤ) (enough : pos 20_000_000 ≤ℤ G k φ Δ) where
   -- the height above the plane through the sphere's middle
   p : ℤ
   p = near (k .s0 *ℤ b k φ Δ +ℤ k .c0 *ℤ v k φ Δ) unit
@@ -96,9 +96,9 @@ module _ (k : Constants) (sound-k : Sound k) (centre : OnCircle (k .s0) (k .c0))
   unfolding b c u v w p
   on-sphere =
       coarse-sphere (b k φ Δ) (c k φ Δ) (k .s0) (k .c0) (sine Δ) (cosine Δ) (u k φ Δ) (v k φ Δ) (w k φ Δ) p
-      (b-size k φ Δ) (c-size k φ Δ) (u-size k φ Δ) (v-size k φ Δ) (w-size k (sound-k .turned) φ Δ)
-      (sum-size (k .s0) (b k φ Δ) (k .c0) (v k φ Δ) (sound-k .turned .s0-size) (b-size k φ Δ) (sound-k .turned .c0-size) (v-size k φ Δ))
-      (near-circle (betaMas (k .series) φ)) centre (near-circle Δ)
+      (b-size k φ Δ) (c-size k φ Δ) (u-size k φ Δ) (v-size k φ Δ) (w-size k (sound-k .centre) φ Δ)
+      (sum-size (k .s0) (b k φ Δ) (k .c0) (v k φ Δ) (sound-k .centre .s0-size) (b-size k φ Δ) (sound-k .centre .c0-size) (v-size k φ Δ))
+      (near-circle (beta (k .series) φ .0)) centre (near-circle Δ)
       (near-unit (c k φ Δ *ℤ sine Δ)) (near-unit (c k φ Δ *ℤ cosine Δ))
       (near-unit (k .c0 *ℤ b k φ Δ -ℤ k .s0 *ℤ v k φ Δ)) (near-unit (k .s0 *ℤ b k φ Δ +ℤ k .c0 *ℤ v k φ Δ))
 
@@ -143,43 +143,20 @@ within-limits n z h = rw (le-leZ (abs-lower z h), le-leZ (abs-upper z h))
 coordinate : (F d : ℤ) → natAbs F ≤ 1_000_000_000 → natAbs d ≤ 3_240_000_000 → within (negℤ (pos 5_000_000_000)) (pos 5_000_000_000) (F +ℤ d) ≡ true
 coordinate F d F-most d-most = within-limits 5_000_000_000 (F +ℤ d) (le-trans (abs-add-le F d F-most d-most) (lit≤ tt))
 
--- what is said of an answer: if it is accepted, it lies within the limits
-Limited : PlaneAnswer → Type 0
-Limited (Plane E N) = on-plane E N ≡ true
-Limited (Refused n) = Unit {0}
-
-module _ (p : Parameters) (φ : Geodetic) (lon : ℤ) where
-  -- the answer that the steps compute
-  plane-limited : setRefusal p ≡ 0 → near-enough (nearness p φ lon) ≡ true →
-      on-plane (p .«false_easting» +ℤ dE (constantsOf p) (φ .0) (lon -ℤ p .lon0)) (p .«false_northing» +ℤ dN (constantsOf p) (φ .0) (lon -ℤ p .lon0)) ≡ true
-  unfolding on-plane near-enough nearness
-  plane-limited ok enough =
-      let Δ : ℤ = lon -ℤ p .lon0 in
-      let least : pos 20_000_000 ≤ℤ G (constantsOf p) (φ .0) Δ = leZ-true (pos 20_000_000) (G (constantsOf p) (φ .0) Δ) enough in
-      ap₂ _&&_
-      (coordinate (p .«false_easting») (dE (constantsOf p) (φ .0) Δ) (accepted p ok .easting-size) (dE-size (constantsOf p) (sound p ok) (circle-of p) (φ .0) Δ least))
-      (coordinate (p .«false_northing») (dN (constantsOf p) (φ .0) Δ) (accepted p ok .northing-size) (dN-size (constantsOf p) (sound p ok) (circle-of p) (φ .0) Δ least))
-
-  -- any answer: a refusal has nothing to show
-  answer-limited : Limited (forwardOf p φ lon)
-  unfolding forwardOf forwardPoint Limited
-  answer-limited = of-set (setRefusal p) refl
-    where
-      of-point : (a b : Bool) → near-enough (nearness p φ lon) ≡ b → setRefusal p ≡ 0 →
-          Limited (pick a
-          (pick b
-          (Plane (p .«false_easting» +ℤ dE (constantsOf p) (φ .0) (lon -ℤ p .lon0)) (p .«false_northing» +ℤ dN (constantsOf p) (φ .0) (lon -ℤ p .lon0)))
-          (Refused 4))
-          (Refused 3))
-      of-point true true enough ok = plane-limited ok enough
-      of-point true false enough ok = tt
-      of-point false b enough ok = tt
-
-      of-set : (n : ℕ) → setRefusal p ≡ n → Limited (after n (forwardPoint p φ lon))
-      of-set zero ok = of-point (on-globe φ lon) (near-enough (nearness p φ lon)) refl ok
-      of-set (suc n) e = tt
+-- the easting and the northing that the steps compute
+steps-on-plane : (p : Parameters) (φ : Geodetic) (lon : ℤ) → setRefusal p ≡ 0 → near-enough (nearness p φ lon) ≡ true →
+    on-plane (eastingOf p φ lon) (northingOf p φ lon) ≡ true
+unfolding on-plane near-enough nearness eastingOf northingOf
+steps-on-plane p φ lon ok enough =
+    let k : Constants = constantsOf p in
+    let Δ : ℤ = lon -ℤ p .lon0 in
+    let least : pos 20_000_000 ≤ℤ G k φ Δ = leZ-true (pos 20_000_000) (G k φ Δ) enough in
+    ap₂ _&&_
+    (coordinate (p .«false_easting») (dE k φ Δ) (accepted p ok .easting-size) (dE-size k (sound p ok) (circle-of p) φ Δ least))
+    (coordinate (p .«false_northing») (dN k φ Δ) (accepted p ok .northing-size) (dN-size k (sound p ok) (circle-of p) φ Δ least))
 
 -- every accepted forward answer, of every accepted set, lies within the limits of refusal 3
 pub forward-on-plane : (p : Parameters) (φ : Geodetic) (lon E N : ℤ) → forwardOf p φ lon ≡ Plane E N → on-plane E N ≡ true
-unfolding Limited
-forward-on-plane p φ lon E N e = subst Limited e (answer-limited p φ lon)
+forward-on-plane p φ lon E N e =
+    let answer = accepted-forward p φ lon E N e in
+    rw (answer .easting, answer .northing) at (steps-on-plane p φ lon (answer .set-accepted) (answer .enough))

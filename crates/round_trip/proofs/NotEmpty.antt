@@ -15,13 +15,12 @@ use Rattle.latitudes.specs.declared.Geodetic.{Geodetic}
 use Rattle.parameters.specs.declared.Parameters.{Parameters}
 use Rattle.azimuthal_forward.specs.declared.PlaneAnswer.the-variants.{Plane}
 use Rattle.units.specs.Spans.{within, same}
-use Rattle.parameters.specs.ParameterSet.{polar, accepted-a, accepted-e2, accepted-lat0, accepted-lon0, accepted-false, firstRefusal, setRefusal, etrsLaea}
-use Rattle.latitudes.specs.Latitude.{terms, rounded}
-use Rattle.latitudes.proofs.AuthalicLaws.{betaMas}
+use Rattle.parameters.specs.ParameterSet.{polar, accepted-a, accepted-e2, accepted-lat0, accepted-lon0, accepted-false, setRefusal, etrsLaea}
+use Rattle.latitudes.specs.Latitude.{terms, rounded, beta}
 use Rattle.constants.specs.Derived.{to-mas, e4, e6, k2, k4, k6, seriesOf, β0, S0, C0, constantsOf}
-use Rattle.azimuthal_forward.specs.Steps.{b, c, v, G, dE, dN, near-enough}
-use Rattle.azimuthal_forward.specs.Answer.{nearness, on-globe, forwardOf}
-use Rattle.azimuthal_forward.proofs.ForwardLaws.{forward-plane, forward-of-accepted}
+use Rattle.azimuthal_forward.specs.Steps.{b, c, v, G, near-enough}
+use Rattle.azimuthal_forward.specs.Answer.{on-globe, nearness, eastingOf, northingOf, forwardOf}
+use Rattle.azimuthal_forward.proofs.AnswerLaws.{forward-plane}
 
 -- what demand 3 asks of a set and a position, with the forward answer that it speaks of
 pub record Met (p : Parameters) (φ : Geodetic) (lon : ℤ) : Type 0 where
@@ -43,11 +42,11 @@ met p φ lon equator passes =
     let near-centre : pos 1_000_000_000 ≤ℤ nearness p φ lon = leZ-true (pos 1_000_000_000) (nearness p φ lon) (passes .2) in
     let enough : pos 20_000_000 ≤ℤ nearness p φ lon = ≤ℤ-trans {y = pos 1_000_000_000} (omega order) near-centre in
     record {
-      E = p .«false_easting» +ℤ dE (constantsOf p) (φ .0) (lon -ℤ p .lon0);
-      N = p .«false_northing» +ℤ dN (constantsOf p) (φ .0) (lon -ℤ p .lon0);
+      E = eastingOf p φ lon;
+      N = northingOf p φ lon;
       set-accepted = passes .0;
       from-equator = equator;
-      answered = forward-of-accepted p φ lon (passes .0) ∙ forward-plane p φ lon (passes .1) (le-leZ {x = pos 20_000_000} {y = nearness p φ lon} enough);
+      answered = forward-plane p φ lon (passes .0) (passes .1) (le-leZ {x = pos 20_000_000} {y = nearness p φ lon} enough);
       near-centre = near-centre;
     }
 
@@ -79,7 +78,7 @@ computed :
     × Passes equatorial (degrees (negℤ (pos 15))) (pos 108_000_000)
     × Passes north-polar (degrees (pos 75)) (pos 360_000_000)
     × Passes south-polar (degrees (negℤ (pos 60))) (negℤ (pos 216_000_000))
-unfolding within same polar accepted-a accepted-e2 accepted-lat0 accepted-lon0 accepted-false firstRefusal setRefusal on-globe nearness G b c v constantsOf S0 C0 β0 seriesOf k2 k4 k6 e4 e6 to-mas betaMas rounded terms near nearest entry between first-quarter first-half one-turn sine cosine
+unfolding within same polar accepted-a accepted-e2 accepted-lat0 accepted-lon0 accepted-false setRefusal on-globe nearness G b c v constantsOf S0 C0 β0 seriesOf k2 k4 k6 e4 e6 to-mas beta rounded terms near nearest entry between first-quarter first-half one-turn sine cosine
 computed = ((refl, refl, refl), (refl, refl, refl), (refl, refl, refl), (refl, refl, refl))
 
 -- ETRS-LAEA at 50° N, 5° E: the example of EPSG's guidance note

@@ -14,7 +14,8 @@ use Rattle.trig.specs.Sine.{sine, cosine}
 use Rattle.trig.proofs.Interface.{sine-size, cosine-size, near-circle}
 use Rattle.constants.specs.declared.Constants.{Constants}
 use Rattle.azimuthal_inverse.specs.declared.SpherePoint.{SpherePoint}
-use Rattle.latitudes.proofs.AuthalicLaws.{betaMas}
+use Rattle.latitudes.specs.declared.Geodetic.{Geodetic}
+use Rattle.latitudes.specs.Latitude.{beta}
 use Rattle.units.specs.Units.{U}
 use Rattle.azimuthal_forward.specs.Steps.{H, b, c, u, v, w, G, dE, dN}
 use Rattle.azimuthal_inverse.specs.Steps.{versineOf, G as G′, up, level, zOf, fOf, pointOf, X, Y, K, found}
@@ -37,17 +38,17 @@ above-unit x h = omega (order, parts-+ U x)
 -- ---- the steps
 
 -- sound constants whose S0 and C0 lie on the circle, and a position at most 89° from the Equator whose nearness is at least U
-pub record Given (k : Constants) (φ Δ : ℤ) : Type 0 where
+pub record Given (k : Constants) (φ : Geodetic) (Δ : ℤ) : Type 0 where
   pub sound : Sound k
   pub centre : OnCircle (k .s0) (k .c0)
-  pub latitude : natAbs φ ≤ 320_400_000
+  pub latitude : natAbs (φ .0) ≤ 320_400_000
   pub near-centre : pos unit ≤ℤ G k φ Δ
 
-module _ {k : Constants} {φ Δ : ℤ} (g : Given k φ Δ) where
+module _ {k : Constants} {φ : Geodetic} {Δ : ℤ} (g : Given k φ Δ) where
   -- c is far enough above 0
   c-large : pos 17_000_000 ≤ℤ c k φ Δ
   unfolding c
-  c-large = cosine-at-89 (k .series) (g .sound .small) φ (g .latitude)
+  c-large = cosine-at-89 (k .series) (g .sound .small) (φ .0) (g .latitude)
 
   -- c is a natural number
   pub c-natural : pos (natAbs (c k φ Δ)) ≡ c k φ Δ
@@ -70,7 +71,7 @@ module _ {k : Constants} {φ Δ : ℤ} (g : Given k φ Δ) where
   -- b and c lie on the circle
   on-sphere : OnCircle (b k φ Δ) (pos (natAbs (c k φ Δ)))
   unfolding b c
-  on-sphere = subst (OnCircle (b k φ Δ)) (sym c-natural) (near-circle (betaMas (k .series) φ))
+  on-sphere = subst (OnCircle (b k φ Δ)) (sym c-natural) (near-circle (beta (k .series) φ .0))
 
   -- u, v and the height are rounded from c, v and b
   u-near : Near unit (u k φ Δ) (pos (natAbs (c k φ Δ)) *ℤ sine Δ)
@@ -91,13 +92,13 @@ module _ {k : Constants} {φ Δ : ℤ} (g : Given k φ Δ) where
   pub forward-steps : Forward (b k φ Δ) (k .s0) (k .c0) (sine Δ) (cosine Δ) (u k φ Δ) (v k φ Δ) (w k φ Δ) (natAbs (c k φ Δ)) (natAbs height)
   unfolding b c w
   forward-steps =
-      let β = betaMas (k .series) φ in
+      let β = beta (k .series) φ .0 in
       record {
         c-least = pos-≤ (rw c-natural c-large);
         c-most = cosine-size β;
         b-most = sine-size β;
-        S-most = g .sound .turned .s0-size;
-        C-most = g .sound .turned .c0-size;
+        S-most = g .sound .centre .s0-size;
+        C-most = g .sound .centre .c0-size;
         s-most = sine-size Δ;
         t-most = cosine-size Δ;
         position = on-sphere;

@@ -12,7 +12,7 @@ use Rattle.azimuthal_forward.specs.declared.PlaneAnswer.the-variants.{Plane, Re
 use Rattle.azimuthal_inverse.specs.declared.GeodeticAnswer.{GeodeticAnswer}
 use Rattle.azimuthal_inverse.specs.declared.GeodeticAnswer.the-variants.{Position, Refused as NotFound}
 use Rattle.parameters.specs.ParameterSet.{setRefusal}
-use Rattle.latitudes.proofs.AuthalicLaws.{betaMas}
+use Rattle.latitudes.specs.Latitude.{beta}
 use Rattle.constants.specs.Derived.{seriesOf}
 use Rattle.azimuthal_forward.specs.Answer.{nearness, forwardOf}
 use Rattle.azimuthal_inverse.specs.Answer.{inverseOf}
@@ -43,7 +43,7 @@ turnGap d = min (natAbs d % full-turn) (full-turn - natAbs d % full-turn)
 
 -- The longitude gap (a term of document 01) at a geodetic latitude, times U: "times cosine(β)/U, with the set's β of φ .. The product is not rounded."
 unfoldable pub longitudeGap : Parameters → Geodetic → ℤ → ℤ → ℤ
-longitudeGap p φ lon lon′ = pos (turnGap (lon′ -ℤ lon)) *ℤ cosine (betaMas (seriesOf (p .e2)) (φ .0))
+longitudeGap p φ lon lon′ = pos (turnGap (lon′ -ℤ lon)) *ℤ cosine (beta (seriesOf (p .e2)) φ .0)
 
 -- An accepted answer whose latitude differs from φ by at most `latitude` mas, and whose longitude gap from lon, at φ, is at most n/d mas.
 pub record CloseTo (latitude n d : ℕ) (p : Parameters) (φ : Geodetic) (lon : ℤ) (answer : GeodeticAnswer) : Type 0 where

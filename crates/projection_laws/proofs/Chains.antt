@@ -1,0 +1,51 @@
+-- What a chain of tests can give: a link gives its own number or what the next links give, and so does a chain that comes before another. So where the
+-- numbers of all links are in a list, the chain's is. `search chain` follows the links of a chain; whether a number is in the list is computed.
+-- Use: `let g : Gives numbers n = search chain depth 40 in g .one : OneOf numbers n`.
+-- Assumes nothing.
+use mathlib.Core.Path.{_≡_, refl}
+use mathlib.Core.Bool.{Bool, true, false, cond, _||_}
+use mathlib.Core.List.{List, [], _∷_}
+use mathlib.Core.Logic.{_⊎_, inl, inr}
+use Prim.Native.Nat.{ℕ, zero, suc}
+use lib.Dec.{T, eqb, eqb→eq}
+use mir.Facts.{or-yes}
+use Rattle.units.specs.Refusals.{unless, firstOf}
+use Rattle.projection_laws.specs.Theorems.{OneOf}
+
+-- n is one of the numbers
+pub record Gives (numbers : List ℕ) (n : ℕ) : Type 0 where
+  pub one : OneOf numbers n
+
+abbrev pub among : List ℕ → ℕ → Bool
+among [] n = false
+among (x ∷ xs) n = eqb n x || among xs n
+
+listed : (xs : List ℕ) (n : ℕ) → T (among xs n) → OneOf xs n
+listed [] n t = absurd t
+listed (x ∷ xs) n t = at (or-yes (eqb n x) (among xs n) t) (listed xs n)
+  where
+    at : T (eqb n x) ⊎ T (among xs n) → (T (among xs n) → OneOf xs n) → OneOf (x ∷ xs) n
+    at (inl h) later = inl (eqb→eq n x h)
+    at (inr h) later = inr (later h)
+
+pub number : {xs : List ℕ} {n : ℕ} → T (among xs n) → Gives xs n
+number {xs} {n} t = record { one = listed xs n t }
+
+pub link : (t : Bool) {xs : List ℕ} {m n : ℕ} → Gives xs m → Gives xs n → Gives xs (unless t m n)
+link true g h = h
+link false g h = g
+
+pub choice : (t : Bool) {xs : List ℕ} {m n : ℕ} → Gives xs m → Gives xs n → Gives xs (cond t m n)
+choice true g h = g
+choice false g h = h
+
+pub first : (m : ℕ) {xs : List ℕ} {n : ℕ} → Gives xs m → Gives xs n → Gives xs (firstOf m n)
+first zero g h = h
+first (suc m) g h = g
+
+pub ruleset chain = (first, link, choice, number)
+
+-- a chain that gives 0 has passed the chain that comes first in it
+pub first-passed : (m n : ℕ) → firstOf m n ≡ 0 → m ≡ 0
+first-passed zero n h = refl
+first-passed (suc m) n h = h
