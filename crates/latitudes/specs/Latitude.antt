@@ -50,6 +50,10 @@ pub record SmallReversed (k : ReversedSeries) : Type 0 where
   pub k4-size : natAbs (k .k4) ≤ 250_000
   pub k6-size : natAbs (k .k6) ≤ 3_000
 
+-- An estimate of φ, past a pole perhaps, is within this many mas of the Equator.
+abbrev pub estimate-limit : ℕ
+estimate-limit = 400_000_000
+
 -- What every step of the search for φ is asked: the table, small coefficients, and a latitude β.
 pub record Searchable (t : List ℕ) (k : AuthalicSeries) (β : Authalic) : Type 0 where
   pub table : IsTable t

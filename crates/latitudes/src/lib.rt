@@ -2,6 +2,8 @@
 use integers::excess;
 use integers::near;
 use sine_table::Table;
+use trig::FIRST_MARGIN;
+use trig::WIDENING;
 use trig::cosine;
 use trig::sine;
 use units::HALF_TURN;
@@ -15,7 +17,7 @@ ghost use Rattle.integers.specs.Search.{Span, About};
 ghost use Rattle.sine_table.specs.Table.{IsTable};
 ghost use Rattle.units.specs.Units.{right-angle, half-turn};
 ghost use Rattle.trig.specs.Sine.{sine as sineOf, cosine as cosineOf};
-ghost use Rattle.latitudes.specs.Latitude.{SmallSeries, SmallReversed, Searchable, rounded, beta, not-above, geodetic};
+ghost use Rattle.latitudes.specs.Latitude.{SmallSeries, SmallReversed, Searchable, estimate-limit, rounded, beta, not-above, geodetic};
 
 // The latitude on the ellipsoid.
 pub struct Geodetic(pub i64);
@@ -137,20 +139,26 @@ fn search_near(t: &Table, k: AuthalicSeries, beta: Authalic, estimate: u64, marg
     if is_bracketed(t, k, beta, low, high) {
         return search(t, k, beta, low, high);
     }
-    search_near(t, k, beta, estimate, 16 * margin + 4)
+    search_near(t, k, beta, estimate, WIDENING * margin + FIRST_MARGIN)
 }
 
 // One radian, in mas.
 const RADIAN: i64 = 206_264_806;
 
-// The coefficients of the series from β back to φ, in 64ths of a mas.
+// The series from β back to φ is counted in 64ths of a mas; its terms, products with a sine, are
+// divided by the second.
+const FINE: i64 = 64;
+
+const FINE_DIVISOR: u64 = 64_000_000_000;
+
+// The coefficients of that series.
 struct ReversedSeries {
     k2: i64,
     k4: i64,
     k6: i64,
 }
 
-// The series reversed, up to the third power of k2. One radian has 206,264,806 mas.
+// The series reversed, up to the third power of k2.
 fn reversed(k: AuthalicSeries) -> ReversedSeries
     requires { ⌜ SmallSeries k ⌝ }
     ensures { λ r. ⌜ SmallReversed r ⌝ }
@@ -158,12 +166,12 @@ fn reversed(k: AuthalicSeries) -> ReversedSeries
     let k2 = k.k2;
     let k4 = k.k4;
     let k6 = k.k6;
-    let square = 64 * k2 * k2 / RADIAN;
+    let square = FINE * k2 * k2 / RADIAN;
     let cube = square * k2 / RADIAN;
-    let product = 64 * k2 * k4 / RADIAN;
-    let two = 64 * k2 + product - cube / 2;
-    let four = 64 * k4 - square;
-    let six = 64 * k6 + 3 * cube / 2 - 3 * product;
+    let product = FINE * k2 * k4 / RADIAN;
+    let two = FINE * k2 + product - cube / 2;
+    let four = FINE * k4 - square;
+    let six = FINE * k6 + 3 * cube / 2 - 3 * product;
     ReversedSeries {
         k2: two,
         k4: four,
@@ -171,13 +179,19 @@ fn reversed(k: AuthalicSeries) -> ReversedSeries
     }
 }
 
+// A latitude that may be past a pole is counted from LIFT south of the Equator, so that it is not
+// negative. The South Pole is then at LIFTED_POLE.
+const LIFT: i64 = 400_000_000;
+
+const LIFTED_POLE: u64 = 76_000_000;
+
 // A latitude counted from the South Pole; one past a pole is taken for the pole.
 fn count_from_pole(lat: i64) -> u64
-    requires { ⌜ natAbs lat ≤ 400_000_000 ⌝ }
+    requires { ⌜ natAbs lat ≤ estimate-limit ⌝ }
     ensures { λ n. ⌜ n ≤ half-turn ⌝ }
 {
-    let n = (lat + 400_000_000) as u64;
-    HALF_TURN - excess(HALF_TURN, excess(n, 76_000_000))
+    let n = (lat + LIFT) as u64;
+    HALF_TURN - excess(HALF_TURN, excess(n, LIFTED_POLE))
 }
 
 // The geodetic latitude of β by the reversed series, mostly to the mas. Nothing rests on its
@@ -193,7 +207,7 @@ fn estimate(t: &Table, r: ReversedSeries, beta: Authalic) -> u64
     let s2 = sine(t, 2 * b);
     let s4 = sine(t, 4 * b);
     let s6 = sine(t, 6 * b);
-    count_from_pole(b + near(k2 * s2 - k4 * s4 + k6 * s6, 64_000_000_000))
+    count_from_pole(b + near(k2 * s2 - k4 * s4 + k6 * s6, FINE_DIVISOR))
 }
 
 // The geodetic latitude of an authalic one: the greatest whose β is not above it.

@@ -1,5 +1,5 @@
--- `correction` meets its contract: the coefficients and the sines are small, so every product and sum is within 64 bits and is
--- the one of the paper. Assumes nothing.
+-- `correction` meets its contract: the coefficients and the sines are small, so every product and sum is within 64 bits and is the one of
+-- the paper, rounded once. Assumes nothing.
 use borrow.Author.Needs.{needs}
 use mathlib.Core.Path.{_≡_, ap, _∙_}
 use Prim.Native.Nat.{_≤_}
@@ -17,25 +17,25 @@ use Rattle.latitudes.proofs.correction.Statement.{statement}
 use Rattle.latitudes.proofs.correction.Tie as tie
 
 mul-sine : tie.Need-mul-sine
-mul-sine c = fits (search (code, c .before .before .before .before .pre .2) depth 40 fits 20000) tt
+mul-sine c = fits (search code depth 40 fits 20000) tt
 
 sine-requires : tie.Need-sine-requires
-sine-requires c κs = c .before .before .before .before .pre .0
+sine-requires c κs = search needs
 
 mul-sine-2 : tie.Need-mul-sine-2
-mul-sine-2 c = fits (search (code, c .before .before .before .before .before .pre .2) depth 40 fits 20000) tt
+mul-sine-2 c = fits (search code depth 40 fits 20000) tt
 
 sine-requires-2 : tie.Need-sine-requires-2
-sine-requires-2 c κs = c .before .before .before .before .before .pre .0
+sine-requires-2 c κs = search needs
 
 mul-sine-3 : tie.Need-mul-sine-3
-mul-sine-3 c = fits (search (code, c .before .before .before .before .before .before .pre .2) depth 40 fits 20000) tt
+mul-sine-3 c = fits (search code depth 40 fits 20000) tt
 
 sine-requires-3 : tie.Need-sine-requires-3
-sine-requires-3 c κs = c .before .before .before .before .before .before .pre .0
+sine-requires-3 c κs = search needs
 
 -- a call of sine gave the sine of the multiple of φ
-is-sine : (r θ z : ℤ) → r ≡ sine θ → θ ≡ z → (r ≡ sine z) × (natAbs r ≤ 1_000_000_000)
+is-sine : (r θ z : ℤ) → r ≡ sine θ → θ ≡ z → (r ≡ sine z) × (natAbs r ≤ unit)
 is-sine r θ z e f = (e ∙ ap sine f, rw e (sine-size θ))
 
 -- the sum of the terms is that of the three sines

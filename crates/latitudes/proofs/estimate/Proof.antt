@@ -1,4 +1,5 @@
--- `estimate` meets its contract: the coefficients and the sines are small, so every product and sum is within 64 bits. Assumes nothing.
+-- `estimate` meets its contract: the coefficients and the sines are small, so every product and sum is within 64 bits, the correction is
+-- below 1,000,000 mas, and whatever latitude comes out is cut at the poles. Assumes nothing.
 use borrow.Author.Needs.{needs}
 use Prim.Native.Nat.{_≤_}
 use lib.Dec.{lit<}
@@ -6,6 +7,7 @@ use lib.IntN.{natAbs}
 use Rattle.proof_kit.proofs.Range.{code, fits, read-size, read-room}
 use Rattle.proof_kit.proofs.Size.{as-size}
 use Rattle.integers.proofs.Rounding.{near-at-most}
+use Rattle.units.specs.Units.{unit}
 use Rattle.trig.proofs.Interface.{sine-size}
 use Rattle.latitudes.proofs.estimate.Statement.{statement}
 use Rattle.latitudes.proofs.estimate.Tie as tie
@@ -29,9 +31,9 @@ sine-requires-3 : tie.Need-sine-requires-3
 sine-requires-3 c κs = search needs
 
 record Sines (c : tie.After-sine3) : Type 0 where
-  pub two : natAbs (c .before .before .sine .result) ≤ 1_000_000_000
-  pub four : natAbs (c .before .sine2 .result) ≤ 1_000_000_000
-  pub six : natAbs (c .sine3 .result) ≤ 1_000_000_000
+  pub two : natAbs (c .before .before .sine .result) ≤ unit
+  pub four : natAbs (c .before .sine2 .result) ≤ unit
+  pub six : natAbs (c .sine3 .result) ≤ unit
 
 sines : (c : tie.After-sine3) → Sines c
 sines c =

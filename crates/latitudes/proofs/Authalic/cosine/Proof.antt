@@ -1,4 +1,5 @@
--- `latitude::Authalic::cosine` meets its contract. Assumes nothing.
+-- `Authalic::cosine` meets its contract: a latitude is within ±90°, so it is read back from 64 bits as it was, and `trig` takes its cosine.
+-- Assumes nothing.
 use mathlib.Core.Path.{ap, _∙_}
 use native.Mathlib.Omega.{arith}
 use lib.Dec.{lit<}
@@ -8,7 +9,9 @@ use Rattle.latitudes.proofs.Authalic.cosine.Statement.{statement}
 use Rattle.latitudes.proofs.Authalic.cosine.Tie as tie
 
 cosine-requires : tie.Need-cosine-requires
-cosine-requires c κs = (c .before .pre .0, rw (kept (c .before .args .self .0) (c .before .pre .1) (lit< tt)) (omega (arith, c .before .pre .1)))
+cosine-requires c κs =
+    let start = c .before in
+    (start .pre .0, rw (kept (start .args .self .0) (start .pre .1) (lit< tt)) (omega (arith, start .pre .1)))
 
 returns : tie.Need-returns
 returns c =
