@@ -17,7 +17,7 @@ ghost use Rattle.integers.specs.Search.{Span, About};
 ghost use Rattle.sine_table.specs.Table.{IsTable};
 ghost use Rattle.units.specs.Units.{right-angle, half-turn};
 ghost use Rattle.trig.specs.Sine.{sine as sineOf, cosine as cosineOf};
-ghost use Rattle.latitudes.specs.Latitude.{SmallSeries, SmallReversed, Searchable, estimate-limit, rounded, beta, not-above, geodetic};
+ghost use Rattle.latitudes.specs.Latitude.{SmallSeries, SmallTerms, Searchable, estimate-limit, three-terms, rounded, beta, not-above, geodetic};
 
 // The latitude on the ellipsoid.
 pub struct Geodetic(pub i64);
@@ -64,19 +64,23 @@ impl Authalic {
     }
 }
 
+// k2·sine(2x) − k4·sine(4x) + k6·sine(6x), not rounded.
+fn three_terms(t: &Table, k2: i64, k4: i64, k6: i64, x: i64) -> i64
+    requires { ⌜ IsTable (now t) × SmallTerms k2 k4 k6 × (natAbs x ≤ right-angle) ⌝ }
+    ensures { λ r. ⌜ r ≡ three-terms k2 k4 k6 x ⌝ }
+{
+    let s2 = sine(t, 2 * x);
+    let s4 = sine(t, 4 * x);
+    let s6 = sine(t, 6 * x);
+    k2 * s2 - k4 * s4 + k6 * s6
+}
+
 // φ − β: the three terms of the series with one rounding.
 fn correction(t: &Table, k: AuthalicSeries, lat: Geodetic) -> i64
     requires { ⌜ IsTable (now t) × SmallSeries k × (natAbs (lat .0) ≤ right-angle) ⌝ }
     ensures { λ r. ⌜ r ≡ rounded k lat ⌝ }
 {
-    let phi = lat.0;
-    let k2 = k.k2;
-    let k4 = k.k4;
-    let k6 = k.k6;
-    let s2 = sine(t, 2 * phi);
-    let s4 = sine(t, 4 * phi);
-    let s6 = sine(t, 6 * phi);
-    near(k2 * s2 - k4 * s4 + k6 * s6, UNIT_DIVISOR)
+    near(three_terms(t, k.k2, k.k4, k.k6, lat.0), UNIT_DIVISOR)
 }
 
 // β of a geodetic latitude.
@@ -161,7 +165,7 @@ struct ReversedSeries {
 // The series reversed, up to the third power of k2.
 fn reversed(k: AuthalicSeries) -> ReversedSeries
     requires { ⌜ SmallSeries k ⌝ }
-    ensures { λ r. ⌜ SmallReversed r ⌝ }
+    ensures { λ r. ⌜ SmallTerms (r .k2) (r .k4) (r .k6) ⌝ }
 {
     let k2 = k.k2;
     let k4 = k.k4;
@@ -197,17 +201,11 @@ fn count_from_pole(lat: i64) -> u64
 // The geodetic latitude of β by the reversed series, mostly to the mas. Nothing rests on its
 // precision.
 fn estimate(t: &Table, r: ReversedSeries, beta: Authalic) -> u64
-    requires { ⌜ IsTable (now t) × SmallReversed r × (natAbs (beta .0) ≤ right-angle) ⌝ }
+    requires { ⌜ IsTable (now t) × SmallTerms (r .k2) (r .k4) (r .k6) × (natAbs (beta .0) ≤ right-angle) ⌝ }
     ensures { λ n. ⌜ n ≤ half-turn ⌝ }
 {
-    let b = beta.0;
-    let k2 = r.k2;
-    let k4 = r.k4;
-    let k6 = r.k6;
-    let s2 = sine(t, 2 * b);
-    let s4 = sine(t, 4 * b);
-    let s6 = sine(t, 6 * b);
-    count_from_pole(b + near(k2 * s2 - k4 * s4 + k6 * s6, FINE_DIVISOR))
+    let terms = three_terms(t, r.k2, r.k4, r.k6, beta.0);
+    count_from_pole(beta.0 + near(terms, FINE_DIVISOR))
 }
 
 // The geodetic latitude of an authalic one: the greatest whose β is not above it.
