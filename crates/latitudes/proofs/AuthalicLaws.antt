@@ -1,8 +1,9 @@
--- Laws of the authalic latitude β, for coefficients as small as those of every accepted set: odd, ±90° at ±90°, near φ, and never falling.
--- Assumes nothing.
+-- Laws of the authalic latitude β, for coefficients as small as those of every accepted set: odd, as each sine is; ±90° at ±90°, where each
+-- sine is 0; near φ, as the terms are small; and never falling, as the terms change by less than 0.7 % of what φ does. Assumes nothing.
 use mathlib.Core.Path.{_≡_, ap, _∙_}
 use mathlib.Core.List.{[], _∷_}
 use Prim.Native.Nat.{ℕ, zero, suc, _+_, _*_, _<_, _≤_}
+use native.Mathlib.Nat.{le-trans}
 use native.Mathlib.Omega.{arith}
 use lib.Dec.{lit<, lit≤}
 use lib.IntN.{ℤ, pos, negℤ, natAbs, _+ℤ_, _-ℤ_, _*ℤ_, +ℤ-idr}
@@ -19,7 +20,7 @@ use Rattle.trig.specs.Sine.{sine}
 use Rattle.trig.proofs.Interface.{sine-odd, sine-size, sine-change, sine-zero, sine-half-turn}
 use Rattle.latitudes.specs.declared.Geodetic.{Geodetic}
 use Rattle.latitudes.specs.declared.AuthalicSeries.{AuthalicSeries}
-use Rattle.latitudes.specs.Latitude.{terms, rounded, beta, SmallSeries}
+use Rattle.latitudes.specs.Latitude.{three-terms, terms, rounded, beta, SmallSeries, SmallTerms}
 
 some : 0 < unit
 some = lit< tt
@@ -82,14 +83,25 @@ beta-south-pole k = beta-odd k (pos right-angle) ∙ ap negℤ (beta-north-pole 
 
 -- ---- β is near φ
 
+three-terms-at-most :
+    (k2 k4 k6 x : ℤ) {A B C : ℕ} →
+    natAbs k2 ≤ A →
+    natAbs k4 ≤ B →
+    natAbs k6 ≤ C →
+    natAbs (three-terms k2 k4 k6 x) ≤ (A + B + C) * unit
+three-terms-at-most k2 k4 k6 x {A} {B} {C} a b c =
+    sum _ _ _ (sine-size (pos 2 *ℤ x)) (sine-size (pos 4 *ℤ x)) (sine-size (pos 6 *ℤ x))
+  where
+    sum : (x y z : ℤ) → natAbs x ≤ unit → natAbs y ≤ unit → natAbs z ≤ unit → natAbs (k2 *ℤ x -ℤ k4 *ℤ y +ℤ k6 *ℤ z) ≤ (A + B + C) * unit
+    sum x y z hx hy hz = rw as-size (abs-le (search sizes depth 40 fits 20000) (omega arith))
+
+pub three-terms-size : {k2 k4 k6 : ℤ} → SmallTerms k2 k4 k6 → (x : ℤ) → natAbs (three-terms k2 k4 k6 x) ≤ 46_000_000 * unit
+three-terms-size {k2} {k4} {k6} small x =
+    le-trans (three-terms-at-most k2 k4 k6 x (small .k2-size) (small .k4-size) (small .k6-size)) (lit≤ tt)
+
 terms-size : (k : AuthalicSeries) → SmallSeries k → (φ : ℤ) → natAbs (terms k (mas φ)) ≤ 692_510 * unit
 unfolding terms
-terms-size k small φ =
-    sum (k .k2) (sine (pos 2 *ℤ φ)) (k .k4) (sine (pos 4 *ℤ φ)) (k .k6) (sine (pos 6 *ℤ φ))
-    (small .k2-size) (sine-size (pos 2 *ℤ φ)) (small .k4-size) (sine-size (pos 4 *ℤ φ)) (small .k6-size) (sine-size (pos 6 *ℤ φ))
-  where
-    sum : (a x b y c z : ℤ) → natAbs a ≤ 691_500 → natAbs x ≤ unit → natAbs b ≤ 1_000 → natAbs y ≤ unit → natAbs c ≤ 10 → natAbs z ≤ unit → natAbs (a *ℤ x -ℤ b *ℤ y +ℤ c *ℤ z) ≤ 692_510 * unit
-    sum a x b y c z ha hx hb hy hc hz = rw as-size (abs-le (search sizes depth 40 fits 20000) (lit≤ tt))
+terms-size k small φ = three-terms-at-most (k .k2) (k .k4) (k .k6) φ (small .k2-size) (small .k4-size) (small .k6-size)
 
 pub rounded-size : (k : AuthalicSeries) → SmallSeries k → (φ : ℤ) → natAbs (rounded k (mas φ)) ≤ 692_510
 unfolding rounded
@@ -101,13 +113,19 @@ rounded-size k small φ = near-at-most (terms k (mas φ)) unit 692_510 some (ter
 multiple-change : (m n : ℕ) (φ : ℤ) → natAbs (sine (pos m *ℤ (φ +ℤ pos n)) -ℤ sine (pos m *ℤ φ)) ≤ 5 * (m * n)
 multiple-change m n φ = rw (*ℤ-distribˡ (pos m) φ (pos n)) (sine-change (m * n) (pos m *ℤ φ))
 
-terms-change : (k : AuthalicSeries) → SmallSeries k → (n : ℕ) (φ : ℤ) → natAbs (terms k (mas (φ +ℤ pos n)) -ℤ terms k (mas φ)) ≤ n * 7_000_000
+terms-change :
+    (k : AuthalicSeries) →
+    SmallSeries k →
+    (n : ℕ) (φ : ℤ) →
+    natAbs (terms k (mas (φ +ℤ pos n)) -ℤ terms k (mas φ)) ≤ n * 7_000_000
 unfolding terms
 terms-change k small n φ =
-    sum (k .k2) (sine (pos 2 *ℤ (φ +ℤ pos n))) (sine (pos 2 *ℤ φ)) (k .k4) (sine (pos 4 *ℤ (φ +ℤ pos n))) (sine (pos 4 *ℤ φ)) (k .k6) (sine (pos 6 *ℤ (φ +ℤ pos n))) (sine (pos 6 *ℤ φ))
+    sum (k .k2) _ _ (k .k4) _ _ (k .k6) _ _
     (small .k2-size) (multiple-change 2 n φ) (small .k4-size) (multiple-change 4 n φ) (small .k6-size) (multiple-change 6 n φ)
   where
-    split : (a x x′ b y y′ c z z′ : ℤ) → (a *ℤ x -ℤ b *ℤ y +ℤ c *ℤ z) -ℤ (a *ℤ x′ -ℤ b *ℤ y′ +ℤ c *ℤ z′) ≡ a *ℤ (x -ℤ x′) -ℤ b *ℤ (y -ℤ y′) +ℤ c *ℤ (z -ℤ z′)
+    split :
+        (a x x′ b y y′ c z z′ : ℤ) →
+        (a *ℤ x -ℤ b *ℤ y +ℤ c *ℤ z) -ℤ (a *ℤ x′ -ℤ b *ℤ y′ +ℤ c *ℤ z′) ≡ a *ℤ (x -ℤ x′) -ℤ b *ℤ (y -ℤ y′) +ℤ c *ℤ (z -ℤ z′)
     split a x x′ b y y′ c z z′ = ring (a ∷ x ∷ x′ ∷ b ∷ y ∷ y′ ∷ c ∷ z ∷ z′ ∷ []) (search quote depth 40 fits 20000) tt
 
     sum :
@@ -130,8 +148,11 @@ pub beta-slope :
     (pos 993 *ℤ pos n -ℤ pos 1000) ≤ℤ (pos 1000 *ℤ (betaMas k (φ +ℤ pos n) -ℤ betaMas k φ))
 unfolding beta rounded
 beta-slope k small n φ =
-    falls-short (near (terms k (mas (φ +ℤ pos n))) unit) (near (terms k (mas φ)) unit)
-    (omega (arith, abs-mul (pos unit) (near (terms k (mas (φ +ℤ pos n))) unit -ℤ near (terms k (mas φ)) unit), near-apart (terms k (mas (φ +ℤ pos n))) (terms k (mas φ)) unit some, terms-change k small n φ))
+    let here = terms k (mas φ) in
+    let there = terms k (mas (φ +ℤ pos n)) in
+    let scaled = abs-mul (pos unit) (near there unit -ℤ near here unit) in
+    falls-short (near there unit) (near here unit)
+    (omega (arith, scaled, near-apart there here unit some, terms-change k small n φ))
   where
     falls-short :
         (x y : ℤ) →

@@ -1,5 +1,5 @@
--- Laws of the way back from an authalic latitude: the South Pole passes the test of the search, and the test stays false once it is false, because β never falls.
--- Assumes nothing.
+-- Laws of the way back from an authalic latitude: the South Pole passes the test of the search, because its β is −90°, and the test stays
+-- false once it is false, because β never falls. Assumes nothing.
 use mathlib.Core.Path.{_≡_, sym, ap, _∙_, subst}
 use mathlib.Core.Bool.{true}
 use mathlib.Core.List.{List, [], _∷_}

@@ -1,2 +1,3 @@
+mod Reading
 pub mod AuthalicLaws
 pub mod GeodeticLaws

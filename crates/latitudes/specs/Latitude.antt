@@ -12,14 +12,16 @@ use Rattle.trig.specs.Sine.{sine}
 use Rattle.latitudes.specs.declared.Geodetic.{Geodetic}
 use Rattle.latitudes.specs.declared.Authalic.{Authalic}
 use Rattle.latitudes.specs.declared.AuthalicSeries.{AuthalicSeries}
-use Rattle.latitudes.specs.declared.ReversedSeries.{ReversedSeries}
 
 abbrev pub coefficients : ℤ → ℤ → ℤ → AuthalicSeries
 coefficients k2 k4 k6 = record { k2 = k2; k4 = k4; k6 = k6 }
 
 -- "k2·sine(2φ) − k4·sine(4φ) + k6·sine(6φ)", in billionths of a mas
+abbrev pub three-terms : ℤ → ℤ → ℤ → ℤ → ℤ
+three-terms k2 k4 k6 x = k2 *ℤ sine (pos 2 *ℤ x) -ℤ k4 *ℤ sine (pos 4 *ℤ x) +ℤ k6 *ℤ sine (pos 6 *ℤ x)
+
 unfoldable pub terms : AuthalicSeries → Geodetic → ℤ
-terms k φ = k .k2 *ℤ sine (pos 2 *ℤ φ .0) -ℤ k .k4 *ℤ sine (pos 4 *ℤ φ .0) +ℤ k .k6 *ℤ sine (pos 6 *ℤ φ .0)
+terms k φ = three-terms (k .k2) (k .k4) (k .k6) (φ .0)
 
 -- "β = φ − near((k2·sine(2φ) − k4·sine(4φ) + k6·sine(6φ))/U), one rounding"
 unfoldable pub rounded : AuthalicSeries → Geodetic → ℤ
@@ -44,11 +46,15 @@ pub record SmallSeries (k : AuthalicSeries) : Type 0 where
   pub k4-size : natAbs (k .k4) ≤ 1_000
   pub k6-size : natAbs (k .k6) ≤ 10
 
--- and so are those of the reversed series, which starts the search for φ.
-pub record SmallReversed (k : ReversedSeries) : Type 0 where
-  pub k2-size : natAbs (k .k2) ≤ 45_000_000
-  pub k4-size : natAbs (k .k4) ≤ 250_000
-  pub k6-size : natAbs (k .k6) ≤ 3_000
+-- So are those of the reversed series, which starts the search for φ, and three terms with such coefficients are within 64 bits.
+pub record SmallTerms (k2 k4 k6 : ℤ) : Type 0 where
+  pub k2-size : natAbs k2 ≤ 45_000_000
+  pub k4-size : natAbs k4 ≤ 250_000
+  pub k6-size : natAbs k6 ≤ 3_000
+
+-- An estimate of φ, past a pole perhaps, is within this many mas of the Equator.
+abbrev pub estimate-limit : ℕ
+estimate-limit = 400_000_000
 
 -- What every step of the search for φ is asked: the table, small coefficients, and a latitude β.
 pub record Searchable (t : List ℕ) (k : AuthalicSeries) (β : Authalic) : Type 0 where

@@ -2,6 +2,8 @@
 use integers::excess;
 use integers::near;
 use sine_table::Table;
+use trig::FIRST_MARGIN;
+use trig::WIDENING;
 use trig::cosine;
 use trig::sine;
 use units::HALF_TURN;
@@ -15,7 +17,7 @@ ghost use Rattle.integers.specs.Search.{Span, About};
 ghost use Rattle.sine_table.specs.Table.{IsTable};
 ghost use Rattle.units.specs.Units.{right-angle, half-turn};
 ghost use Rattle.trig.specs.Sine.{sine as sineOf, cosine as cosineOf};
-ghost use Rattle.latitudes.specs.Latitude.{SmallSeries, SmallReversed, Searchable, rounded, beta, not-above, geodetic};
+ghost use Rattle.latitudes.specs.Latitude.{SmallSeries, SmallTerms, Searchable, estimate-limit, three-terms, rounded, beta, not-above, geodetic};
 
 // The latitude on the ellipsoid.
 pub struct Geodetic(pub i64);
@@ -62,19 +64,23 @@ impl Authalic {
     }
 }
 
+// k2·sine(2x) − k4·sine(4x) + k6·sine(6x), not rounded.
+fn three_terms(t: &Table, k2: i64, k4: i64, k6: i64, x: i64) -> i64
+    requires { ⌜ IsTable (now t) × SmallTerms k2 k4 k6 × (natAbs x ≤ right-angle) ⌝ }
+    ensures { λ r. ⌜ r ≡ three-terms k2 k4 k6 x ⌝ }
+{
+    let s2 = sine(t, 2 * x);
+    let s4 = sine(t, 4 * x);
+    let s6 = sine(t, 6 * x);
+    k2 * s2 - k4 * s4 + k6 * s6
+}
+
 // φ − β: the three terms of the series with one rounding.
 fn correction(t: &Table, k: AuthalicSeries, lat: Geodetic) -> i64
     requires { ⌜ IsTable (now t) × SmallSeries k × (natAbs (lat .0) ≤ right-angle) ⌝ }
     ensures { λ r. ⌜ r ≡ rounded k lat ⌝ }
 {
-    let phi = lat.0;
-    let k2 = k.k2;
-    let k4 = k.k4;
-    let k6 = k.k6;
-    let s2 = sine(t, 2 * phi);
-    let s4 = sine(t, 4 * phi);
-    let s6 = sine(t, 6 * phi);
-    near(k2 * s2 - k4 * s4 + k6 * s6, UNIT_DIVISOR)
+    near(three_terms(t, k.k2, k.k4, k.k6, lat.0), UNIT_DIVISOR)
 }
 
 // β of a geodetic latitude.
@@ -137,33 +143,39 @@ fn search_near(t: &Table, k: AuthalicSeries, beta: Authalic, estimate: u64, marg
     if is_bracketed(t, k, beta, low, high) {
         return search(t, k, beta, low, high);
     }
-    search_near(t, k, beta, estimate, 16 * margin + 4)
+    search_near(t, k, beta, estimate, WIDENING * margin + FIRST_MARGIN)
 }
 
 // One radian, in mas.
 const RADIAN: i64 = 206_264_806;
 
-// The coefficients of the series from β back to φ, in 64ths of a mas.
+// The series from β back to φ is counted in 64ths of a mas; its terms, products with a sine, are
+// divided by the second.
+const FINE: i64 = 64;
+
+const FINE_DIVISOR: u64 = 64_000_000_000;
+
+// The coefficients of that series.
 struct ReversedSeries {
     k2: i64,
     k4: i64,
     k6: i64,
 }
 
-// The series reversed, up to the third power of k2. One radian has 206,264,806 mas.
+// The series reversed, up to the third power of k2.
 fn reversed(k: AuthalicSeries) -> ReversedSeries
     requires { ⌜ SmallSeries k ⌝ }
-    ensures { λ r. ⌜ SmallReversed r ⌝ }
+    ensures { λ r. ⌜ SmallTerms (r .k2) (r .k4) (r .k6) ⌝ }
 {
     let k2 = k.k2;
     let k4 = k.k4;
     let k6 = k.k6;
-    let square = 64 * k2 * k2 / RADIAN;
+    let square = FINE * k2 * k2 / RADIAN;
     let cube = square * k2 / RADIAN;
-    let product = 64 * k2 * k4 / RADIAN;
-    let two = 64 * k2 + product - cube / 2;
-    let four = 64 * k4 - square;
-    let six = 64 * k6 + 3 * cube / 2 - 3 * product;
+    let product = FINE * k2 * k4 / RADIAN;
+    let two = FINE * k2 + product - cube / 2;
+    let four = FINE * k4 - square;
+    let six = FINE * k6 + 3 * cube / 2 - 3 * product;
     ReversedSeries {
         k2: two,
         k4: four,
@@ -171,29 +183,29 @@ fn reversed(k: AuthalicSeries) -> ReversedSeries
     }
 }
 
+// A latitude that may be past a pole is counted from LIFT south of the Equator, so that it is not
+// negative. The South Pole is then at LIFTED_POLE.
+const LIFT: i64 = 400_000_000;
+
+const LIFTED_POLE: u64 = 76_000_000;
+
 // A latitude counted from the South Pole; one past a pole is taken for the pole.
 fn count_from_pole(lat: i64) -> u64
-    requires { ⌜ natAbs lat ≤ 400_000_000 ⌝ }
+    requires { ⌜ natAbs lat ≤ estimate-limit ⌝ }
     ensures { λ n. ⌜ n ≤ half-turn ⌝ }
 {
-    let n = (lat + 400_000_000) as u64;
-    HALF_TURN - excess(HALF_TURN, excess(n, 76_000_000))
+    let n = (lat + LIFT) as u64;
+    HALF_TURN - excess(HALF_TURN, excess(n, LIFTED_POLE))
 }
 
 // The geodetic latitude of β by the reversed series, mostly to the mas. Nothing rests on its
 // precision.
 fn estimate(t: &Table, r: ReversedSeries, beta: Authalic) -> u64
-    requires { ⌜ IsTable (now t) × SmallReversed r × (natAbs (beta .0) ≤ right-angle) ⌝ }
+    requires { ⌜ IsTable (now t) × SmallTerms (r .k2) (r .k4) (r .k6) × (natAbs (beta .0) ≤ right-angle) ⌝ }
     ensures { λ n. ⌜ n ≤ half-turn ⌝ }
 {
-    let b = beta.0;
-    let k2 = r.k2;
-    let k4 = r.k4;
-    let k6 = r.k6;
-    let s2 = sine(t, 2 * b);
-    let s4 = sine(t, 4 * b);
-    let s6 = sine(t, 6 * b);
-    count_from_pole(b + near(k2 * s2 - k4 * s4 + k6 * s6, 64_000_000_000))
+    let terms = three_terms(t, r.k2, r.k4, r.k6, beta.0);
+    count_from_pole(beta.0 + near(terms, FINE_DIVISOR))
 }
 
 // The geodetic latitude of an authalic one: the greatest whose β is not above it.

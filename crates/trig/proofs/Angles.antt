@@ -1,5 +1,5 @@
--- Laws of angle(p, q). The test of the search is passed by 0, and stays false once it is false, because the sine never falls and the cosine never rises.
--- Assumes nothing.
+-- Laws of angle(p, q). The test of the search is passed by 0, whose sine is 0, and stays false once it is false, because from 0 to 90° the
+-- sine never falls and the cosine never rises. Assumes nothing.
 use mathlib.Core.Path.{_≡_, refl, sym, ap, ap₂, _∙_}
 use mathlib.Core.Bool.{Bool, true, false, cond, _&&_}
 use mathlib.Core.List.{List}
@@ -30,10 +30,17 @@ under-zero p q =
 
 pub under-falls : (p q : ℕ) → Falls (under p q) right-angle
 under-falls p q a b h l t =
-    let low : first-quarter b * p ≤ first-quarter (right-angle - b) * q = leb-true (first-quarter b * p) (first-quarter (right-angle - b) * q) (sym (under-is p q b l) ∙ t) in
-    let sine-rises : first-quarter a * p ≤ first-quarter b * p = mul-le-mul-right p (quarter-mono h l) in
-    let cosine-falls : first-quarter (right-angle - b) * q ≤ first-quarter (right-angle - a) * q = mul-le-mul-right q (quarter-mono {a = right-angle - b} {b = right-angle - a} (omega arith) (omega arith)) in
-    under-is p q a (le-trans h l) ∙ le-leb (first-quarter a * p) (first-quarter (right-angle - a) * q) (le-trans sine-rises (le-trans low cosine-falls))
+    let under-b : s b ≤ c b = leb-true (s b) (c b) (sym (under-is p q b l) ∙ t) in
+    let sine-rises : s a ≤ s b = mul-le-mul-right p (quarter-mono h l) in
+    let cosine-falls : c b ≤ c a =
+    mul-le-mul-right q (quarter-mono {a = right-angle - b} {b = right-angle - a} (omega arith) (omega arith)) in
+    under-is p q a (le-trans h l) ∙ le-leb (s a) (c a) (le-trans sine-rises (le-trans under-b cosine-falls))
+  where
+    s : ℕ → ℕ
+    s θ = first-quarter θ * p
+
+    c : ℕ → ℕ
+    c θ = first-quarter (right-angle - θ) * q
 
 pub under-threshold : {t : List ℕ} {p q : ℕ} → Searchable t p q → Threshold (under p q) right-angle
 under-threshold {p = p} {q = q} given = record { zero-passes = under-zero p q; falls = under-falls p q }

@@ -1,5 +1,6 @@
--- The laws of sine and cosine, for every integer angle: what the other crates know of them. Nothing above this file looks into the table or between its minutes.
--- Assumes nothing.
+-- The laws of sine and cosine, for every integer angle: what the other crates know of them. Each is true from 0 to 90° by the laws of the
+-- first quarter, and at every angle because a quarter turn exchanges sine and cosine but for a sign. Nothing above this file looks into the
+-- table or between its minutes. Assumes nothing.
 use mathlib.Core.Path.{_≡_, refl, sym, ap, _∙_}
 use mathlib.Core.List.{[], _∷_}
 use Prim.Native.Nat.{ℕ, zero, suc, _+_, _-_, _*_, _<_, _≤_}
@@ -14,9 +15,11 @@ use Rattle.proof_kit.proofs.Size.{within, abs-neg, abs-via, abs-sub-sym}
 use Rattle.units.specs.Units.{unit, right-angle, half-turn}
 use Rattle.sine_table.proofs.Laws.{entry-59, entry-300}
 use Rattle.trig.specs.Sine.{first-quarter, sine, cosine}
-use Rattle.trig.proofs.Quarter.{quarter-mono, quarter-step, quarter-slope, quarter-circle, quarter-at-most, quarter-minute, quarter-zero, quarter-right}
+use Rattle.trig.proofs.Quarter.{quarter-mono, quarter-step, quarter-slope, quarter-circle, quarter-at-most, quarter-minute}
+use Rattle.trig.proofs.Quarter.{quarter-zero, quarter-right}
 use Rattle.trig.proofs.Symmetry.{sine-first, cosine-first, sine-upper}
-pub use Rattle.trig.proofs.Symmetry.{sine-odd, sine-supplement, sine-half-turn, sine-full-turn, sine-quarter-turn, cosine-quarter-turn, cosine-even, cosine-complement}
+pub use Rattle.trig.proofs.Symmetry.{sine-odd, sine-supplement, sine-half-turn, sine-full-turn, sine-quarter-turn}
+pub use Rattle.trig.proofs.Symmetry.{cosine-quarter-turn, cosine-even, cosine-complement}
 use Rattle.trig.proofs.Turns.{bounded}
 
 -- ---- range
@@ -41,7 +44,10 @@ close θ h =
     within (first-quarter (suc θ)) (first-quarter θ) (quarter-step θ h)
     (le-trans (quarter-mono {a = θ} {b = suc θ} (omega arith) h) (omega arith))
 
-steps-base : (θ : ℕ) → θ < right-angle → (natAbs (sine (pos θ +ℤ pos 1) -ℤ sine (pos θ)) ≤ 5) × (natAbs (cosine (pos θ +ℤ pos 1) -ℤ cosine (pos θ)) ≤ 5)
+steps-base :
+    (θ : ℕ) →
+    θ < right-angle →
+    (natAbs (sine (pos θ +ℤ pos 1) -ℤ sine (pos θ)) ≤ 5) × (natAbs (cosine (pos θ +ℤ pos 1) -ℤ cosine (pos θ)) ≤ 5)
 steps-base θ h =
     let next : θ + 1 ≡ suc θ = omega arith in
     let before : ℕ = right-angle - suc θ in
@@ -122,7 +128,7 @@ unfolding radius-gap
 radius-base θ h =
     let c = quarter-circle θ (omega arith) in
     rw (sine-first θ (omega arith), cosine-first θ (omega arith))
-    (within (first-quarter θ * first-quarter θ + first-quarter (right-angle - θ) * first-quarter (right-angle - θ)) (unit * unit) (c .not-outside) (c .not-inside))
+    (within _ (unit * unit) (c .not-outside) (c .not-inside))
 
 pub near-circle : (t : ℤ) → natAbs (sine t *ℤ sine t +ℤ cosine t *ℤ cosine t -ℤ pos unit *ℤ pos unit) ≤ A * unit
 unfolding radius-gap

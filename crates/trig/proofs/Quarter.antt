@@ -1,5 +1,6 @@
 -- The sine from 0 to 90°, on natural numbers: never falling, its step, its slope from below, and sine² + cosine².
--- In a minute it is one fraction rounded once; the numerator rises by the table's gap at each mas. Assumes nothing.
+-- In a minute it is one fraction rounded once; the numerator rises by the table's gap at each mas. So a sine and its cosine are a point of
+-- the chord between two points of the table, rounded, and the table's are near the circle. Assumes nothing.
 use mathlib.Core.Path.{_≡_, refl, sym, ap, ap₂, _∙_, subst₂}
 use mathlib.Core.Bool.{Bool, true, false, cond}
 use Prim.Native.Nat.{ℕ, zero, suc, _+_, _-_, _*_, _/_, _%_, _<_, _≤_}
@@ -146,9 +147,11 @@ climb (suc n) t c h low =
     let i : ℕ = n + t in
     let e : suc n + t ≡ suc i = omega arith in
     let p = place i (omega arith) in
-    let before : c ≤ first-quarter (right-angle - i) = le-trans low (quarter-mono {a = right-angle - (suc n + t)} {b = right-angle - i} (omega arith) (omega arith)) in
+    let before : c ≤ first-quarter (right-angle - i) =
+    le-trans low (quarter-mono {a = right-angle - (suc n + t)} {b = right-angle - i} (omega arith) (omega arith)) in
     let start : right-angle - i ≤ (5400 - p .k) * minute = omega (arith, p .is, p .inside) in
-    let node-cosine : c ≤ entry (5400 - p .k) = le-trans before (rw (quarter-minute (5400 - p .k)) at (quarter-mono {a = right-angle - i} {b = (5400 - p .k) * minute} start (omega arith))) in
+    let on-minute = quarter-mono {a = right-angle - i} {b = (5400 - p .k) * minute} start (omega arith) in
+    let minute-cosine : c ≤ entry (5400 - p .k) = le-trans before (rw (quarter-minute (5400 - p .k)) at on-minute) in
     rw e (omega (arith, climb n t c (omega arith) before, numerator-step i p, slope (p .k) (p .inside)))
 
 pub quarter-slope :
@@ -167,6 +170,28 @@ quarter-slope n t h =
 square-near : (h : ℕ) {x a b : ℕ} → x ≤ a + h → a ≤ b → x * x ≤ a * a + (2 * h * b + h * h)
 square-near h {x} {a} {b} near small =
     omega (arith, mul-le-mul near near, mul-le-mul-left (2 * h) small)
+
+abbrev half-minute : ℕ
+half-minute = 30_000
+
+-- x is a over a minute, rounded
+record Rounded (x a : ℕ) : Type 0 where
+  low : x * minute ≤ a + half-minute
+  high : a ≤ x * minute + half-minute
+
+abbrev slack : ℕ
+slack = 2 * half-minute * (minute * unit) + half-minute * half-minute
+
+record SquaresNear (x a : ℕ) : Type 0 where
+  up : (x * minute) * (x * minute) ≤ a * a + slack
+  down : a * a ≤ (x * minute) * (x * minute) + slack
+
+squares-near : {x a : ℕ} → Rounded x a → x ≤ unit → a ≤ minute * unit → SquaresNear x a
+squares-near rounded x-small a-small =
+    record {
+      up = square-near half-minute (rounded .low) a-small;
+      down = square-near half-minute {b = minute * unit} (rounded .high) (omega arith);
+    }
 
 -- the chord between two points of the circle: s and c + d, then s + e and c
 chord :
@@ -187,10 +212,8 @@ module _
     (first : OnCircle s (c + d))
     (second : OnCircle (s + e) c)
     (short : e * e + d * d ≤ 84_620_000_000)
-    (sine-low : x * minute ≤ q * s + r * (s + e) + 30_000)
-    (sine-high : q * s + r * (s + e) ≤ x * minute + 30_000)
-    (cosine-low : y * minute ≤ q * (c + d) + r * c + 30_000)
-    (cosine-high : q * (c + d) + r * c ≤ y * minute + 30_000)
+    (sine-rounded : Rounded x (q * s + r * (s + e)))
+    (cosine-rounded : Rounded y (q * (c + d) + r * c))
     (sine-small : s + e ≤ unit)
     (cosine-small : c + d ≤ unit)
     (x-small : x ≤ unit)
@@ -239,34 +262,26 @@ module _
       let c-small : c ≤ unit = omega arith in
       omega (arith, mul-le-mul-left q cosine-small, mul-le-mul-left r c-small)
 
-  x-up : (x * minute) * (x * minute) ≤ a * a + (2 * 30_000 * (minute * unit) + 30_000 * 30_000)
+  x-square : SquaresNear x a
   unfolding a
-  x-up = square-near 30_000 sine-low a-small
+  x-square = squares-near sine-rounded x-small a-small
 
-  x-down : a * a ≤ (x * minute) * (x * minute) + (2 * 30_000 * (minute * unit) + 30_000 * 30_000)
-  unfolding a
-  x-down = square-near 30_000 {b = minute * unit} sine-high (omega arith)
-
-  y-up : (y * minute) * (y * minute) ≤ b * b + (2 * 30_000 * (minute * unit) + 30_000 * 30_000)
+  y-square : SquaresNear y b
   unfolding b
-  y-up = square-near 30_000 cosine-low b-small
-
-  y-down : b * b ≤ (y * minute) * (y * minute) + (2 * 30_000 * (minute * unit) + 30_000 * 30_000)
-  unfolding b
-  y-down = square-near 30_000 {b = minute * unit} cosine-high (omega arith)
+  y-square = squares-near cosine-rounded y-small b-small
 
   rounded : NearCircle x y
   rounded =
       record {
-        not-outside = omega (arith, on-chord, ends-high, x-up, y-up);
-        not-inside = omega (arith, on-chord, ends-low, sag-high, x-down, y-down);
+        not-outside = omega (arith, on-chord, ends-high, x-square .up, y-square .up);
+        not-inside = omega (arith, on-chord, ends-low, sag-high, x-square .down, y-square .down);
       }
 
 -- a sine in the minute from k, as its numerator rounded
-within : (θ k r : ℕ) → numerator θ ≡ node k r → (first-quarter θ * minute ≤ node k r + 30_000) × (node k r ≤ first-quarter θ * minute + 30_000)
+within : (θ k r : ℕ) → numerator θ ≡ node k r → Rounded (first-quarter θ) (node k r)
 within θ k r e =
     rw (quarter-near θ, e)
-    (omega (arith, nearest-low (node k r) some), omega (arith, nearest-high (node k r) some))
+    (record { low = omega (arith, nearest-low (node k r) some); high = omega (arith, nearest-high (node k r) some) })
 
 pub quarter-at-most : {θ : ℕ} → θ ≤ right-angle → first-quarter θ ≤ unit
 quarter-at-most {θ} h =
@@ -312,11 +327,10 @@ module _ (k r j q : ℕ) (both : k + j ≡ 5399) (whole : q + r ≡ minute) (ear
   inner-circle : NearCircle (first-quarter (k * minute + r)) (first-quarter (j * minute + q))
   unfolding node
   inner-circle =
-      rounded q r (entry k) (gap k) (entry j) (gap j) (first-quarter (k * minute + r)) (first-quarter (j * minute + q)) whole start-on-circle end-on-circle short-chord
-      (rw (from-start q r (entry k) (gap k) whole) at (within (k * minute + r) k r (numerator-at k r early) .0))
-      (rw (from-start q r (entry k) (gap k) whole) at (within (k * minute + r) k r (numerator-at k r early) .1))
-      (rw (from-end q r (entry j) (gap j) whole) at (within (j * minute + q) j q (numerator-to j q j-inside (omega arith)) .0))
-      (rw (from-end q r (entry j) (gap j) whole) at (within (j * minute + q) j q (numerator-to j q j-inside (omega arith)) .1))
+      rounded q r (entry k) (gap k) (entry j) (gap j) (first-quarter (k * minute + r)) (first-quarter (j * minute + q))
+      whole start-on-circle end-on-circle short-chord
+      (rw (from-start q r (entry k) (gap k) whole) at (within (k * minute + r) k r (numerator-at k r early)))
+      (rw (from-end q r (entry j) (gap j) whole) at (within (j * minute + q) j q (numerator-to j q j-inside (omega arith))))
       (rw (gap-up k k-inside) (entry-at-most (suc k) k-inside))
       (rw (gap-up j j-inside) (entry-at-most (suc j) j-inside))
       (quarter-at-most (omega arith))

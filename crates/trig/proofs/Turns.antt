@@ -1,5 +1,5 @@
--- What holds from 0 to 90° and is kept by a quarter turn, either way, holds at every angle.
--- Assumes nothing.
+-- What holds from 0 to 90° and is kept by a quarter turn, either way, holds at every angle: every angle is a number of quarter turns away
+-- from one of these, up or down. Assumes nothing.
 use mathlib.Core.Path.{_≡_, sym, ap, _∙_, subst}
 use Prim.Native.Nat.{ℕ, zero, suc, _+_, _-_, _*_, _/_, _%_, _<_, _≤_}
 use native.Mathlib.Nat.{div-add-mod', mod-lt}
@@ -24,7 +24,8 @@ module _
   downs zero t h = subst Holds (+ℤ-idr t) h
   downs (suc j) t h =
       let e : suc j * right-angle ≡ j * right-angle + right-angle = omega arith in
-      let more : t +ℤ pos (suc j * right-angle) ≡ t +ℤ pos (j * right-angle) +ℤ pos right-angle = ap (λ (n : ℕ). t +ℤ pos n) e ∙ sym (+ℤ-assoc t (pos (j * right-angle)) (pos right-angle)) in
+      let more : t +ℤ pos (suc j * right-angle) ≡ t +ℤ pos (j * right-angle) +ℤ pos right-angle =
+      ap (λ (n : ℕ). t +ℤ pos n) e ∙ sym (+ℤ-assoc t (pos (j * right-angle)) (pos right-angle)) in
       downs j t (down (t +ℤ pos (j * right-angle)) (subst Holds more h))
 
   not-negative : (n : ℕ) → Holds (pos n)
@@ -35,7 +36,8 @@ module _
   pub every-angle : (t : ℤ) → Holds t
   every-angle (pos n) = not-negative n
   every-angle (negsuc n) =
-      let e : negsuc n +ℤ pos (suc n * right-angle) ≡ pos (suc n * right-angle - suc n) = by-parts _ _ (omega (arith, parts-+ (negsuc n) (pos (suc n * right-angle)))) in
+      let e : negsuc n +ℤ pos (suc n * right-angle) ≡ pos (suc n * right-angle - suc n) =
+      by-parts _ _ (omega (arith, parts-+ (negsuc n) (pos (suc n * right-angle)))) in
       downs (suc n) (negsuc n) (rw e (not-negative (suc n * right-angle - suc n)))
 
 -- two sizes that a quarter turn exchanges, bounded from 0 to 90°, are bounded at every angle

@@ -1,2 +1,3 @@
 pub mod Sine
 pub mod Angle
+pub mod Estimate

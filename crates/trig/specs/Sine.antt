@@ -7,6 +7,10 @@ use Rattle.integers.specs.Near.{nearest}
 use Rattle.units.specs.Units.{minute, right-angle, half-turn, full-turn}
 use Rattle.sine_table.specs.Table.{entry}
 
+-- the minutes from 0 to 90°
+abbrev pub quarter-minutes : ℕ
+quarter-minutes = 5_400
+
 -- "θ = 60,000k + r, r below 60,000: T[k] + near((T[k+1] − T[k]) · r / 60,000); for r = 0 it is T[k]."
 unfoldable pub between : ℕ → ℕ → ℕ
 between k r = cond (eqb r 0) (entry k) (entry k + nearest ((entry (suc k) - entry k) * r) minute)

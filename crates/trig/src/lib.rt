@@ -17,12 +17,16 @@ ghost use Rattle.integers.specs.Greatest.{greatest, bracketed};
 ghost use Rattle.integers.specs.Search.{Span, About};
 ghost use Rattle.sine_table.specs.Table.{IsTable, entry};
 ghost use Rattle.units.specs.Units.{right-angle, half-turn};
-ghost use Rattle.trig.specs.Sine.{first-quarter, first-half, sine, cosine};
+ghost use Rattle.trig.specs.Sine.{quarter-minutes, first-quarter, first-half, sine, cosine};
+ghost use Rattle.trig.specs.Estimate.{whole-part, part-limit};
 ghost use Rattle.trig.specs.Angle.{under, angle, angle-limit, Searchable};
+
+// The minutes from 0 to 90°.
+const QUARTER_MINUTES: u64 = 5_400;
 
 // T[k].
 fn minute_sine(t: &Table, k: u64) -> u64
-    requires { ⌜ IsTable (now t) × (k < 5401) ⌝ }
+    requires { ⌜ IsTable (now t) × (k ≤ quarter-minutes) ⌝ }
     ensures { λ r. ⌜ r ≡ entry k ⌝ }
 {
     t[k as usize] as u64
@@ -115,6 +119,11 @@ fn is_bracketed(t: &Table, p: u64, q: u64, low: u64, high: u64) -> bool
     !is_under(t, p, q, high + 1)
 }
 
+// The margin that is tried after another is WIDENING times it and FIRST_MARGIN more.
+pub const WIDENING: u64 = 16;
+
+pub const FIRST_MARGIN: u64 = 4;
+
 // The greatest angle that is under: searches the span of this margin about the estimate, or where
 // that does not hold it a wider one, up to the whole quarter.
 fn search_near(t: &Table, p: u64, q: u64, estimate: u64, margin: u64) -> u64
@@ -126,63 +135,75 @@ fn search_near(t: &Table, p: u64, q: u64, estimate: u64, margin: u64) -> u64
     if is_bracketed(t, p, q, low, high) {
         return search(t, p, q, low, high);
     }
-    search_near(t, p, q, estimate, 16 * margin + 4)
+    search_near(t, p, q, estimate, WIDENING * margin + FIRST_MARGIN)
 }
+
+// Tangents from 0 to 1 are counted in parts of 2^14.
+const WHOLE: u64 = 16_384;
 
 // The part x/2^14 of a.
 fn part(a: u64, x: u64) -> u64
-    requires { ⌜ (a ≤ 4_000_000) × (x ≤ 16_384) ⌝ }
+    requires { ⌜ (a ≤ part-limit) × (x ≤ whole-part) ⌝ }
     ensures { λ r. ⌜ r ≤ a ⌝ }
 {
-    a * x / 16_384
+    a * x / WHOLE
 }
 
 // lower/upper in parts of 2^14.
 fn ratio(lower: u64, upper: u64) -> u64
     requires { ⌜ (lower ≤ upper) × (upper ≤ angle-limit) ⌝ }
-    ensures { λ r. ⌜ r ≤ 16_384 ⌝ }
+    ensures { λ r. ⌜ r ≤ whole-part ⌝ }
 {
-    lower * 16_384 / (upper + 1)
+    lower * WHOLE / (upper + 1)
 }
 
-// The angle from 0 to 45° whose tangent is x/2^14, to within 4 minutes: x − x³/3 + x⁵/5 with
-// coefficients fitted to that span, in 1,024ths of a minute.
+// The coefficients of x, x³ and x⁵ in x − x³/3 + x⁵/5, fitted to 0 to 45°, in 1,024ths of a minute.
+const FIRST: u64 = 3_503_912;
+
+const THIRD: u64 = 1_016_263;
+
+const FIFTH: u64 = 279_293;
+
+const MINUTE_PARTS: u64 = 1_024;
+
+// The angle from 0 to 45° whose tangent is x/2^14, to within 4 minutes.
 fn arctangent_minutes(x: u64) -> u64
-    requires { ⌜ x ≤ 16_384 ⌝ }
-    ensures { λ k. ⌜ k ≤ 5400 ⌝ }
+    requires { ⌜ x ≤ whole-part ⌝ }
+    ensures { λ k. ⌜ k ≤ quarter-minutes ⌝ }
 {
     let square = part(x, x);
-    part(
-        3_503_912 - part(1_016_263 - part(279_293, square), square),
-        x,
-    )
-        / 1024
+    part(FIRST - part(THIRD - part(FIFTH, square), square), x) / MINUTE_PARTS
 }
 
 // angle(p, q) to within 4 minutes.
 fn estimate_minutes(p: u64, q: u64) -> u64
     requires { ⌜ (p ≤ angle-limit) × (q ≤ angle-limit) ⌝ }
-    ensures { λ k. ⌜ k ≤ 5400 ⌝ }
+    ensures { λ k. ⌜ k ≤ quarter-minutes ⌝ }
 {
     let lower = p - excess(p, q);
     let upper = q + excess(p, q);
     let k = arctangent_minutes(ratio(lower, upper));
-    if q <= p { k } else { 5400 - k }
+    if q <= p { k } else { QUARTER_MINUTES - k }
 }
 
+// One radian, and ten minutes, in mas.
+const RADIAN: u64 = 206_264_806;
+
+const TEN_MINUTES: u64 = 600_000;
+
 // angle(p, q), mostly to the mas where p or q is large. The part of it past minute k has the tangent
-// (cosine(k)·q − sine(k)·p)/(cosine(k)·p + sine(k)·q), and one radian has 206,264,806 mas. Ten
-// minutes are added on the way, so that nothing is negative. Nothing rests on its precision.
+// (cosine(k)·q − sine(k)·p)/(cosine(k)·p + sine(k)·q). Ten minutes are added on the way, so that
+// nothing is negative. Nothing rests on its precision.
 fn estimate(t: &Table, p: u64, q: u64) -> u64
-    requires { ⌜ IsTable (now t) × (p ≤ angle-limit) × (q ≤ angle-limit) ⌝ }
+    requires { ⌜ Searchable (now t) p q ⌝ }
     ensures { λ r. ⌜ r ≤ right-angle ⌝ }
 {
     let k = estimate_minutes(p, q);
     let s = minute_sine(t, k);
-    let c = minute_sine(t, 5400 - k);
-    let mas = c * p / 206_264_806 + s * q / 206_264_806 + 1;
-    let theta = MINUTE * k + excess(c * q + 600_000 * mas, s * p) / mas;
-    RIGHT_ANGLE - excess(RIGHT_ANGLE, excess(theta, 600_000))
+    let c = minute_sine(t, QUARTER_MINUTES - k);
+    let mas = c * p / RADIAN + s * q / RADIAN + 1;
+    let theta = MINUTE * k + excess(c * q + TEN_MINUTES * mas, s * p) / mas;
+    RIGHT_ANGLE - excess(RIGHT_ANGLE, excess(theta, TEN_MINUTES))
 }
 
 // angle(p, q): the angle from 0 to 90° whose sine and cosine are as q and p.

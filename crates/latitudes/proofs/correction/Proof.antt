@@ -1,116 +1,63 @@
--- `correction` meets its contract: the coefficients and the sines are small, so every product and sum is within 64 bits and is
--- the one of the paper. Assumes nothing.
-use borrow.Author.Needs.{needs}
+-- `correction` meets its contract: the coefficients of every accepted set and a latitude are small, so that they are read back from 64 bits
+-- as they were; the sum of the three terms is the definition's, with room for half of U, and it is rounded once. Assumes nothing.
 use mathlib.Core.Path.{_≡_, ap, _∙_}
-use Prim.Native.Nat.{_≤_}
-use lib.Dec.{lit<}
-use lib.IntN.{ℤ, pos, natAbs, _+ℤ_, _-ℤ_, _*ℤ_}
-use Rattle.proof_kit.proofs.Range.{code, fits, read, read-room, returned}
-use Rattle.proof_kit.proofs.Size.{as-size}
+use Prim.Native.Nat.{_*_, _≤_}
+use native.Mathlib.Nat.{le-trans}
+use native.Mathlib.Omega.{arith}
+use lib.Dec.{lit<, lit≤}
+use lib.IntN.{ℤ, natAbs}
+use mir.Syntax.{w64}
+use mir.Val.{toZ, ofZ}
+use Rattle.proof_kit.proofs.Range.{kept, returned}
 use Rattle.integers.specs.Near.{near}
 use Rattle.units.specs.Units.{unit}
-use Rattle.trig.specs.Sine.{sine}
-use Rattle.trig.proofs.Interface.{sine-size}
-use Rattle.latitudes.specs.declared.AuthalicSeries.{AuthalicSeries}
-use Rattle.latitudes.specs.Latitude.{terms, rounded, SmallSeries}
+use Rattle.latitudes.specs.Latitude.{terms, rounded}
+use Rattle.latitudes.proofs.Reading.{latitude-read}
+use Rattle.latitudes.proofs.AuthalicLaws.{three-terms-size}
 use Rattle.latitudes.proofs.correction.Statement.{statement}
 use Rattle.latitudes.proofs.correction.Tie as tie
 
-mul-sine : tie.Need-mul-sine
-mul-sine c = fits (search (code, c .before .before .before .before .pre .2) depth 40 fits 20000) tt
+abbrev start : tie.After-struct-told4 → tie.Start
+start c = c .before .before .before .before
 
-sine-requires : tie.Need-sine-requires
-sine-requires c κs = c .before .before .before .before .pre .0
+module _ (c : tie.Start) where
+  k2-read : toZ w64 (ofZ w64 (c .args .k .k2)) ≡ c .args .k .k2
+  k2-read = kept (c .args .k .k2) (c .pre .1 .k2-size) (lit< tt)
 
-mul-sine-2 : tie.Need-mul-sine-2
-mul-sine-2 c = fits (search (code, c .before .before .before .before .before .pre .2) depth 40 fits 20000) tt
+  k4-read : toZ w64 (ofZ w64 (c .args .k .k4)) ≡ c .args .k .k4
+  k4-read = kept (c .args .k .k4) (c .pre .1 .k4-size) (lit< tt)
 
-sine-requires-2 : tie.Need-sine-requires-2
-sine-requires-2 c κs = c .before .before .before .before .before .pre .0
+  k6-read : toZ w64 (ofZ w64 (c .args .k .k6)) ≡ c .args .k .k6
+  k6-read = kept (c .args .k .k6) (c .pre .1 .k6-size) (lit< tt)
 
-mul-sine-3 : tie.Need-mul-sine-3
-mul-sine-3 c = fits (search (code, c .before .before .before .before .before .before .pre .2) depth 40 fits 20000) tt
+  φ-read : toZ w64 (ofZ w64 (c .args .lat .0)) ≡ c .args .lat .0
+  φ-read = latitude-read (c .args .lat .0) (c .pre .2)
 
-sine-requires-3 : tie.Need-sine-requires-3
-sine-requires-3 c κs = c .before .before .before .before .before .before .pre .0
+three-terms-requires : tie.Need-three-terms-requires
+three-terms-requires c κs =
+    let s = start c in
+    let k = s .pre .1 in (
+      s .pre .0,
+      rw (k2-read s, k4-read s, k6-read s)
+          (record { k2-size = le-trans (k .k2-size) (lit≤ tt); k4-size = le-trans (k .k4-size) (lit≤ tt); k6-size = le-trans (k .k6-size) (lit≤ tt) }),
+      rw (φ-read s) (s .pre .2),
+    )
 
--- a call of sine gave the sine of the multiple of φ
-is-sine : (r θ z : ℤ) → r ≡ sine θ → θ ≡ z → (r ≡ sine z) × (natAbs r ≤ 1_000_000_000)
-is-sine r θ z e f = (e ∙ ap sine f, rw e (sine-size θ))
-
--- the sum of the terms is that of the three sines
-summed : (k : AuthalicSeries) {x x′ y y′ z z′ : ℤ} → x ≡ x′ → y ≡ y′ → z ≡ z′ →
-    k .k2 *ℤ x -ℤ k .k4 *ℤ y +ℤ k .k6 *ℤ z ≡ k .k2 *ℤ x′ -ℤ k .k4 *ℤ y′ +ℤ k .k6 *ℤ z′
-summed k e f g = rw (e, f, g)
-
--- the start of the function
-abbrev start : tie.After-sine3 → tie.Start
-start c = c .before .before .before .before .before .before .before
-
-record Sines (c : tie.After-sine3) : Type 0 where
-  pub small : SmallSeries (start c .args .k)
-  pub two : (c .before .before .sine .result ≡ sine (pos 2 *ℤ start c .args .lat .0)) × (natAbs (c .before .before .sine .result) ≤ unit)
-  pub four : (c .before .sine2 .result ≡ sine (pos 4 *ℤ start c .args .lat .0)) × (natAbs (c .before .sine2 .result) ≤ unit)
-  pub six : (c .sine3 .result ≡ sine (pos 6 *ℤ start c .args .lat .0)) × (natAbs (c .sine3 .result) ≤ unit)
-
-sines : (c : tie.After-sine3) → Sines c
-sines c =
-    let latitude-size = start c .pre .2 in
-    record {
-      small = start c .pre .1;
-      two = is-sine _ _ _ (c .before .before .sine .ensures) (read (search (code, latitude-size) depth 40 fits 20000) tt);
-      four = is-sine _ _ _ (c .before .sine2 .ensures) (read (search (code, latitude-size) depth 40 fits 20000) tt);
-      six = is-sine _ _ _ (c .sine3 .ensures) (read (search (code, latitude-size) depth 40 fits 20000) tt);
-    }
-
-mul-near : tie.Need-mul-near
-mul-near c = let s = sines c in fits (search (code, s .small .k2-size) depth 40 fits 20000) tt
-
-mul-near-2 : tie.Need-mul-near-2
-mul-near-2 c = let s = sines c in fits (search (code, s .small .k4-size) depth 40 fits 20000) tt
-
-sub-near : tie.Need-sub-near
-sub-near c = let s = sines c in fits (search (code, s .small .k2-size, s .small .k4-size) depth 40 fits 20000) tt
-
-mul-near-3 : tie.Need-mul-near-3
-mul-near-3 c = let s = sines c in fits (search (code, s .small .k6-size) depth 40 fits 20000) tt
-
-add-near : tie.Need-add-near
-add-near c =
-    let s = sines c in
-    fits (search (code, s .small .k2-size, s .small .k4-size, s .small .k6-size) depth 40 fits 20000) tt
+terms-small : (c : tie.After-three-terms) → natAbs (c .three-terms .result) ≤ 46_000_000 * unit
+terms-small c =
+    let latitude = toZ w64 (ofZ w64 (start (c .before) .args .lat .0)) in
+    rw (c .three-terms .ensures) (three-terms-size (three-terms-requires (c .before) (c .three-terms .lifetimes) .1) latitude)
 
 near-requires : tie.Need-near-requires
-near-requires c κs =
-    let s = sines c in
-    let k = s .small in
-    (lit< tt, rw as-size (read-room 500_000_000 (search (code, k .k2-size, k .k4-size, k .k6-size) depth 40 fits 20000) tt))
+near-requires c κs = (lit< tt, rw (returned (c .three-terms .ok)) (omega (arith, terms-small c)))
 
 returns : tie.Need-returns
 unfolding rounded terms
 returns c =
-    let s = sines (c .before) in
-    let k = s .small in
-    returned (c .near .ok)
-    ∙ c .near .ensures
-    ∙ ap (λ (n : ℤ). near n unit)
-    (read (search (code, k .k2-size, k .k4-size, k .k6-size, s .two .1, s .four .1, s .six .1) depth 40 fits 20000) tt
-    ∙ summed (start (c .before) .args .k) (s .two .0) (s .four .0) (s .six .0))
+    let b = c .before in
+    let s = start (b .before) in
+    let terms-are = rw (k2-read s, k4-read s, k6-read s, φ-read s) at (b .three-terms .ensures) in
+    returned (c .near .ok) ∙ c .near .ensures ∙ ap (λ (n : ℤ). near n unit) (returned (b .three-terms .ok) ∙ terms-are)
 
 pub correction-spec : {M : Type 1} → statement M
-correction-spec =
-    tie.close
-    (tie.spec
-    mul-sine
-    sine-requires
-    mul-sine-2
-    sine-requires-2
-    mul-sine-3
-    sine-requires-3
-    mul-near
-    mul-near-2
-    sub-near
-    mul-near-3
-    add-near
-    near-requires
-    returns)
+correction-spec = tie.close (tie.spec three-terms-requires near-requires returns)

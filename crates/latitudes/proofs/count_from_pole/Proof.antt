@@ -1,4 +1,5 @@
--- `latitude::count_from_pole` meets its contract. Assumes nothing.
+-- `count_from_pole` meets its contract: lifted by the limit of its size the latitude is not negative, so it is a u64, and what is counted from
+-- the South Pole is cut at 0 and at the North Pole. Assumes nothing.
 use borrow.Author.Needs.{needs}
 use mathlib.Core.List.{[], _∷_}
 use Prim.Native.Nat.{_≤_}
@@ -8,13 +9,14 @@ use Rattle.proof_kit.proofs.Range.{code, fits, unsigned, as-sign}
 use Rattle.proof_kit.proofs.Order.{order, le-by, abs-lower}
 use Rattle.proof_kit.proofs.Ring.{quote}
 use Rattle.proof_kit.proofs.Size.{as-size}
+use Rattle.latitudes.specs.Latitude.{estimate-limit}
 use Rattle.latitudes.proofs.count_from_pole.Statement.{statement}
 use Rattle.latitudes.proofs.count_from_pole.Tie as tie
 
 add-n : tie.Need-add-n
 add-n c = fits (search code depth 40 fits 20000) tt
 
-raised : (x : ℤ) → natAbs x ≤ 400_000_000 → pos 0 ≤ℤ (x +ℤ pos 400_000_000)
+raised : (x : ℤ) → natAbs x ≤ estimate-limit → pos 0 ≤ℤ (x +ℤ pos estimate-limit)
 raised x h = le-by (x ∷ []) (search quote depth 40 fits 20000) (omega (order, abs-lower x h))
 
 cast-n : tie.Need-cast-n

@@ -3,14 +3,14 @@
 use borrow.Author.Needs.{needs}
 use mathlib.Core.Path.{_≡_, ap, ap₂, _∙_}
 use Prim.Native.Nat.{_≤_}
-use lib.Dec.{lit<}
 use lib.IntN.{ℤ, natAbs}
 use lib.Signed.{leZ}
-use Rattle.proof_kit.proofs.Range.{code, fits, kept}
+use Rattle.proof_kit.proofs.Range.{code, fits}
 use mir.Syntax.{w64}
 use mir.Val.{toZ, ofZ}
 use Rattle.units.specs.Units.{right-angle}
 use Rattle.latitudes.specs.declared.Authalic.{Authalic}
+use Rattle.latitudes.proofs.Reading.{latitude-read}
 use Rattle.latitudes.proofs.AuthalicLaws.{beta-size}
 use Rattle.latitudes.proofs.GeodeticLaws.{from-south-pole-size, counted}
 use Rattle.latitudes.specs.Latitude.{beta, from-south-pole, not-above}
@@ -42,8 +42,8 @@ returns c =
     let size : natAbs (beta k φ .0) ≤ right-angle =
     beta-size k (start .pre .0 .small) (φ .0) (from-south-pole-size (start .args .n) (start .pre .1)) in
     ap₂ leZ
-    (ap (λ (b : Authalic). toZ w64 (ofZ w64 (b .0))) found ∙ kept (beta k φ .0) size (lit< tt))
-    (kept (start .args .beta .0) (start .pre .0 .beta-size) (lit< tt))
+    (ap (λ (b : Authalic). toZ w64 (ofZ w64 (b .0))) found ∙ latitude-read (beta k φ .0) size)
+    (latitude-read (start .args .beta .0) (start .pre .0 .beta-size))
 
 pub is-not-above-spec : {M : Type 1} → statement M
 is-not-above-spec = tie.close (tie.spec cast-t6 sub-t7 to-authalic-requires returns)

@@ -1,4 +1,5 @@
--- `reversed` meets its contract: the coefficients are small, and so are their products. Assumes nothing.
+-- `reversed` meets its contract: the coefficients are small, and so are their products over a radian. Nothing is stated of their values: the
+-- search that they start finds the latitude wherever it starts. Assumes nothing.
 use lib.Dec.{lit<}
 use Rattle.proof_kit.proofs.Range.{code, fits, read-size}
 use Rattle.proof_kit.proofs.Size.{as-size}

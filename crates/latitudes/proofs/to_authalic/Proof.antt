@@ -1,12 +1,10 @@
 -- `to_authalic` meets its contract: β is φ less the correction, and both are small enough for 64 bits. Assumes nothing.
 use borrow.Author.Needs.{needs}
-use mathlib.Core.Path.{_≡_, ap, _∙_}
+use mathlib.Core.Path.{ap, _∙_}
 use Prim.Native.Nat.{_≤_}
 use lib.IntN.{ℤ, natAbs, _-ℤ_}
-use mir.Syntax.{w64}
-use mir.Val.{toZ, ofZ}
 use Rattle.proof_kit.proofs.Range.{code, fits, read}
-use Rattle.latitudes.specs.Latitude.{beta, rounded}
+use Rattle.latitudes.specs.Latitude.{beta}
 use Rattle.latitudes.proofs.AuthalicLaws.{rounded-size}
 use Rattle.latitudes.proofs.to_authalic.Statement.{statement}
 use Rattle.latitudes.proofs.to_authalic.Tie as tie

@@ -1,4 +1,5 @@
--- `trig::angle` meets its contract. Assumes nothing.
+-- `trig::angle` meets its contract: the sum of p and q is 0 only where both are, which is the exception; else the search finds the greatest
+-- angle that is under, whatever the estimate that it starts from. Assumes nothing.
 use borrow.Author.Needs.{needs}
 use mathlib.Core.Path.{sym, _∙_}
 use Rattle.trig.proofs.Angles.{angle-none, angle-some}

@@ -1,39 +1,70 @@
--- `trig::estimate` meets its contract: every product of a sine is within 64 bits. Assumes nothing.
+-- `trig::estimate` meets its contract: a sine is at most U, so its products with p and q up to their limit, and the sums of them, are
+-- within 64 bits; whatever the angle that comes out, it is cut at 90°. Assumes nothing.
 use borrow.Author.Needs.{needs}
 use mathlib.Core.Path.{_≡_}
 use Prim.Native.Nat.{ℕ, _+_, _-_, _*_, _/_, _≤_}
 use native.Mathlib.Nat.{mul-le-mul, div-le-self}
 use native.Mathlib.Omega.{arith}
+use Rattle.units.specs.Units.{unit}
 use Rattle.sine_table.specs.Table.{entry}
 use Rattle.sine_table.proofs.Laws.{entry-at-most}
+use Rattle.trig.specs.Sine.{quarter-minutes}
+use Rattle.trig.specs.Angle.{angle-limit}
 use Rattle.trig.proofs.estimate.Statement.{statement}
 use Rattle.trig.proofs.estimate.Tie as tie
 
-product-size : (s k p : ℕ) → s ≡ entry k → k ≤ 5400 → p ≤ 18_000_000_000 → s * p ≤ 18_000_000_000_000_000_000
+product-size : (s k p : ℕ) → s ≡ entry k → k ≤ quarter-minutes → p ≤ angle-limit → s * p ≤ unit * angle-limit
 product-size s k p e h l =
-    let small : s ≤ 1_000_000_000 = omega (arith, entry-at-most k h) in
+    let small : s ≤ unit = omega (arith, entry-at-most k h) in
     mul-le-mul small l
 
--- the products of the two sines with p and q
-record Products (s c p q : ℕ) : Type 0 where
-  pub cp : c * p ≤ 18_000_000_000_000_000_000
-  pub sq : s * q ≤ 18_000_000_000_000_000_000
-  pub cq : c * q ≤ 18_000_000_000_000_000_000
-  pub sp : s * p ≤ 18_000_000_000_000_000_000
+-- what is known once both sines are read
+module _ (b : tie.After-minute-sine2) where
+  abbrev start : tie.Start
+  start = b .before .before .before
 
-products : (c : tie.After-minute-sine2) → Products (c .before .minute-sine .result) (c .minute-sine2 .result) (c .before .before .before .args .p) (c .before .before .before .args .q)
-products c =
-    let start = c .before .before .before in
-    let k : ℕ = c .before .before .estimate-minutes .result in
-    let inside : k ≤ 5400 = c .before .before .estimate-minutes .ensures in
-    let s = c .before .minute-sine in
-    let t = c .minute-sine2 in
-    record {
-      cp = product-size (t .result) (5400 - k) (start .args .p) (t .ensures) (omega arith) (start .pre .1);
-      sq = product-size (s .result) k (start .args .q) (s .ensures) inside (start .pre .2);
-      cq = product-size (t .result) (5400 - k) (start .args .q) (t .ensures) (omega arith) (start .pre .2);
-      sp = product-size (s .result) k (start .args .p) (s .ensures) inside (start .pre .1);
-    }
+  abbrev p : ℕ
+  p = start .args .p
+
+  abbrev q : ℕ
+  q = start .args .q
+
+  abbrev k : ℕ
+  k = b .before .before .estimate-minutes .result
+
+  abbrev s : ℕ
+  s = b .before .minute-sine .result
+
+  abbrev c : ℕ
+  c = b .minute-sine2 .result
+
+  -- the mas of a radian over it
+  abbrev mas : ℕ
+  mas = c * p / 206_264_806 + s * q / 206_264_806 + 1
+
+  k-inside : k ≤ quarter-minutes
+  k-inside = b .before .before .estimate-minutes .ensures
+
+  sine-product : (n : ℕ) → n ≤ angle-limit → s * n ≤ unit * angle-limit
+  sine-product n = product-size s k n (b .before .minute-sine .ensures) k-inside
+
+  cosine-product : (n : ℕ) → n ≤ angle-limit → c * n ≤ unit * angle-limit
+  cosine-product n = product-size c (quarter-minutes - k) n (b .minute-sine2 .ensures) (omega arith)
+
+  record Products : Type 0 where
+    pub cp : c * p ≤ unit * angle-limit
+    pub sq : s * q ≤ unit * angle-limit
+    pub cq : c * q ≤ unit * angle-limit
+    pub sp : s * p ≤ unit * angle-limit
+
+  products : Products
+  products =
+      record {
+        cp = cosine-product p (start .pre .p-size);
+        sq = sine-product q (start .pre .q-size);
+        cq = cosine-product q (start .pre .q-size);
+        sp = sine-product p (start .pre .p-size);
+      }
 
 estimate-minutes-requires : tie.Need-estimate-minutes-requires
 estimate-minutes-requires c κs = search needs
@@ -83,7 +114,7 @@ div-theta c = search needs
 add-theta : tie.Need-add-theta
 add-theta c =
     let m = products (c .before) in
-    record { fits = omega (arith, c .excess .ensures, div-le-self (c .excess .result) (c .before .minute-sine2 .result * c .before .before .before .before .args .p / 206264806 + c .before .before .minute-sine .result * c .before .before .before .before .args .q / 206264806 + 1)) }
+    record { fits = omega (arith, c .excess .ensures, div-le-self (c .excess .result) (mas (c .before))) }
 
 excess-requires-2 : tie.Need-excess-requires-2
 excess-requires-2 c κs = search needs

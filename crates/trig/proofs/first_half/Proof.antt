@@ -1,4 +1,5 @@
--- `trig::first_half` meets its contract. Assumes nothing.
+-- `trig::first_half` meets its contract: it follows the two cases of the definition, and what is left of 180° past 90° is below 90°.
+-- Assumes nothing.
 use borrow.Author.Needs.{needs}
 use mathlib.Core.Path.{sym, _∙_}
 use Rattle.trig.proofs.Symmetry.{half-low, half-high}

@@ -1,39 +1,75 @@
--- `trig::first_quarter` meets its contract. Where r is not 0, minute k + 1 is still in the table, and the product of the gap and r is small.
--- Assumes nothing.
+-- `trig::first_quarter` meets its contract: it follows the two cases of the definition. Where r is not 0, θ is below 90°, so minute k + 1
+-- is still in the table; the table rises, and by so little in a minute that its product with r is small. Assumes nothing.
 use borrow.Author.Needs.{needs}
 use mathlib.Core.Path.{_≡_, sym, ap, ap₂, _∙_}
-use mathlib.Core.Bool.{Bool, cond}
 use Prim.Native.Nat.{ℕ, suc, _+_, _-_, _*_, _/_, _%_, _<_, _≤_}
-use native.Mathlib.Nat.{mul-le-mul}
+use native.Mathlib.Nat.{le-of-lt, mul-le-mul}
 use native.Mathlib.Numerals.{add-one}
 use native.Mathlib.Omega.{arith}
 use lib.Dec.{lit<}
 use borrow.Author.Tests.{eq-eqb, ne-eqb}
 use Rattle.integers.specs.Near.{nearest}
 use Rattle.integers.proofs.Rounding.{nearest-le}
+use Rattle.units.specs.Units.{unit, minute}
 use Rattle.sine_table.specs.Table.{entry}
 use Rattle.sine_table.proofs.Laws.{rises, step, entry-at-most}
-use Rattle.units.specs.Units.{minute}
-use Rattle.trig.specs.Sine.{between, first-quarter}
+use Rattle.trig.specs.Sine.{quarter-minutes, between, first-quarter}
 use Rattle.trig.proofs.first_quarter.Statement.{statement}
 use Rattle.trig.proofs.first_quarter.Tie as tie
 
 -- the two cases of the definition
-on-minute : (θ : ℕ) → θ % minute ≡ 0 → first-quarter θ ≡ entry (θ / minute)
-unfolding first-quarter between
-on-minute θ e =
-    ap (λ (b : Bool). cond b (entry (θ / minute)) (entry (θ / minute) + nearest ((entry (suc (θ / minute)) - entry (θ / minute)) * (θ % minute)) minute)) (eq-eqb (θ % minute) 0 e)
+on-minute : (k r : ℕ) → r ≡ 0 → between k r ≡ entry k
+unfolding between
+on-minute k r e = rw (eq-eqb r 0 e)
 
-past-minute : (θ : ℕ) → (θ % minute ≡ 0 → ⊥) → first-quarter θ ≡ entry (θ / minute) + nearest ((entry (suc (θ / minute)) - entry (θ / minute)) * (θ % minute)) minute
-unfolding first-quarter between
-past-minute θ e =
-    ap (λ (b : Bool). cond b (entry (θ / minute)) (entry (θ / minute) + nearest ((entry (suc (θ / minute)) - entry (θ / minute)) * (θ % minute)) minute)) (ne-eqb (θ % minute) 0 e)
+past-minute : (k r : ℕ) → (r ≡ 0 → ⊥) → between k r ≡ entry k + nearest ((entry (suc k) - entry k) * r) minute
+unfolding between
+past-minute k r e = rw (ne-eqb r 0 e)
+
+-- what is known once both entries are read
+module _ (c : tie.After-minute-sine2) where
+  abbrev start : tie.Start
+  start = c .before .before .before
+
+  abbrev k : ℕ
+  k = start .args .theta / minute
+
+  abbrev r : ℕ
+  r = start .args .theta % minute
+
+  abbrev low : ℕ
+  low = c .before .before .minute-sine .result
+
+  abbrev high : ℕ
+  high = c .minute-sine2 .result
+
+  k-inside : k < quarter-minutes
+  k-inside = omega (arith, c .before .if1 .left, start .pre .1)
+
+  low-is : low ≡ entry k
+  low-is = c .before .before .minute-sine .ensures
+
+  high-is : high ≡ entry (suc k)
+  high-is = c .minute-sine2 .ensures ∙ ap entry (add-one k)
+
+  rise : low ≤ high
+  rise = omega (arith, low-is, high-is, rises k k-inside)
+
+  product-small : (high - low) * r ≤ 290_889 * 59_999
+  product-small =
+      let gap : high - low ≤ 290_889 = omega (arith, low-is, high-is, step k k-inside) in
+      let part : r ≤ 59_999 = omega arith in
+      mul-le-mul gap part
+
+  low-small : low ≤ unit
+  low-small = omega (arith, low-is, entry-at-most k (le-of-lt k-inside))
 
 minute-sine-requires : tie.Need-minute-sine-requires
 minute-sine-requires c κs = search needs
 
 returns : tie.Need-returns
-returns c = c .before .minute-sine .ensures ∙ sym (on-minute (c .before .before .args .theta) (c .if1 .taken))
+unfolding first-quarter
+returns c = c .before .minute-sine .ensures ∙ sym (on-minute _ _ (c .if1 .taken))
 
 add-minute-sine : tie.Need-add-minute-sine
 add-minute-sine c = search needs
@@ -41,55 +77,28 @@ add-minute-sine c = search needs
 minute-sine-requires-2 : tie.Need-minute-sine-requires-2
 minute-sine-requires-2 c κs = search needs
 
--- what is known once both entries are read
-record Read (low high θ : ℕ) : Type 0 where
-  pub low-is : low ≡ entry (θ / minute)
-  pub high-is : high ≡ entry (suc (θ / minute))
-  pub rise : low ≤ high
-  pub product : (high - low) * (θ % minute) ≤ 290_889 * 59_999
-  pub low-small : low ≤ 1_000_000_000
-
-read : (low high θ : ℕ) → θ / minute < 5400 → low ≡ entry (θ / minute) → high ≡ entry (θ / minute + 1) → Read low high θ
-read low high θ inside e f =
-    let g : high ≡ entry (suc (θ / minute)) = f ∙ ap entry (add-one (θ / minute)) in
-    let gap : high - low ≤ 290_889 = omega (arith, step (θ / minute) inside) in
-    let part : θ % minute ≤ 59_999 = omega arith in
-    record {
-      low-is = e;
-      high-is = g;
-      rise = omega (arith, rises (θ / minute) inside);
-      product = mul-le-mul gap part;
-      low-small = omega (arith, entry-at-most (θ / minute) (omega arith));
-    }
-
-both : (c : tie.After-minute-sine2) → Read (c .before .before .minute-sine .result) (c .minute-sine2 .result) (c .before .before .before .args .theta)
-both c =
-    read (c .before .before .minute-sine .result) (c .minute-sine2 .result) (c .before .before .before .args .theta)
-    (omega (arith, c .before .if1 .left, c .before .before .before .pre .1))
-    (c .before .before .minute-sine .ensures)
-    (c .minute-sine2 .ensures)
-
 sub-nearest : tie.Need-sub-nearest
-sub-nearest c = both c .rise
+sub-nearest c = rise c
 
 mul-nearest : tie.Need-mul-nearest
-mul-nearest c = record { fits = omega (arith, both c .product) }
+mul-nearest c = record { fits = omega (arith, product-small c) }
 
 nearest-requires : tie.Need-nearest-requires
-nearest-requires c κs = (lit< tt, omega (arith, both c .product))
+nearest-requires c κs = (lit< tt, omega (arith, product-small c))
 
 add-result : tie.Need-add-result
 add-result c =
-    let b = both (c .before) in
-    record { fits = omega (arith, c .nearest .ensures, b .product, b .low-small, nearest-le ((c .before .minute-sine2 .result - c .before .before .before .minute-sine .result) * (c .before .before .before .before .args .theta % minute)) minute (lit< tt)) }
+    let b = c .before in
+    let quotient-small = nearest-le ((high b - low b) * r b) minute (lit< tt) in
+    record { fits = omega (arith, c .nearest .ensures, product-small b, low-small b) }
 
 returns-2 : tie.Need-returns-2
+unfolding first-quarter
 returns-2 c =
-    let b = both (c .before) in
-    let θ = c .before .before .before .before .args .theta in
-    ap₂ _+_ (b .low-is)
-    (c .nearest .ensures ∙ ap₂ (λ (high low : ℕ). nearest ((high - low) * (θ % minute)) minute) (b .high-is) (b .low-is))
-    ∙ sym (past-minute θ (c .before .before .if1 .left))
+    let b = c .before in
+    ap (λ (x : ℕ). low b + x) (c .nearest .ensures)
+    ∙ ap₂ (λ (x y : ℕ). x + nearest ((y - x) * r b) minute) (low-is b) (high-is b)
+    ∙ sym (past-minute (k b) (r b) (b .before .if1 .left))
 
 pub first-quarter-spec : {M : Type 1} → statement M
 first-quarter-spec =

@@ -1,4 +1,5 @@
--- `trig::part` meets its contract. Assumes nothing.
+-- `trig::part` meets its contract: x is at most the 2^14 that is divided by, and a product of two numbers this small is within 64 bits.
+-- Assumes nothing.
 use native.Mathlib.Nat.{mul-le-mul, mul-le-mul-left}
 use native.Mathlib.Omega.{arith}
 use Rattle.trig.proofs.part.Statement.{statement}
