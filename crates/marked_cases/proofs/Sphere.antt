@@ -15,18 +15,21 @@ use Rattle.integers.proofs.Squares.{root-is}
 use Rattle.units.specs.Units.{unit, U}
 use Rattle.trig.specs.Sine.{sine, cosine}
 use Rattle.trig.proofs.Interface.{sine-zero, sine-right, cosine-zero, cosine-right}
+use Rattle.latitudes.specs.declared.Geodetic.{Geodetic}
 use Rattle.latitudes.specs.declared.AuthalicSeries.{AuthalicSeries}
 use Rattle.constants.specs.declared.Constants.{Constants}
 use Rattle.azimuthal_forward.specs.declared.PlaneAnswer.the-variants.{Plane}
 use Rattle.units.specs.Spans.{within, same}
-use Rattle.parameters.specs.ParameterSet.{polar, accepted-a, accepted-e2, accepted-lat0, accepted-lon0, accepted-false, firstRefusal, setRefusal}
-use Rattle.latitudes.specs.Latitude.{coefficients, terms, rounded}
-use Rattle.latitudes.proofs.AuthalicLaws.{betaMas}
+use Rattle.parameters.specs.ParameterSet.{polar, accepted-a, accepted-e2, accepted-lat0, accepted-lon0, accepted-false, setRefusal}
+use Rattle.latitudes.specs.Latitude.{coefficients, terms, rounded, beta}
 use Rattle.constants.specs.Derived.{to-mas, e4, e6, W, J, k2, k4, k6, seriesOf, β0, S0, C0, «V», m, D, Rq, RD, RN, constantsOf}
 use Rattle.azimuthal_forward.specs.Steps.{H, b, c, u, v, w, G, dE, dN, near-enough}
-use Rattle.azimuthal_forward.specs.Answer.{nearness, on-globe, forwardOf}
-use Rattle.azimuthal_forward.proofs.ForwardLaws.{forward-plane, forward-of-accepted}
+use Rattle.azimuthal_forward.specs.Answer.{on-globe, nearness, eastingOf, northingOf, forwardOf}
+use Rattle.azimuthal_forward.proofs.AnswerLaws.{forward-plane}
 use Rattle.marked_cases.specs.Cases.{sphere}
+
+abbrev equator : Geodetic
+equator = record { 0 = pos 0 }
 
 some : 0 < unit
 some = lit< tt
@@ -43,7 +46,7 @@ root-half = root-is (unit * 500_000_000) 707_106_781 (lit≤ tt) (lit< tt)
 -- ---- the constants: J and D are U, RD and RN are a
 
 sphere-accepted : setRefusal sphere ≡ 0
-unfolding setRefusal firstRefusal accepted-a accepted-e2 accepted-lat0 polar same accepted-lon0 accepted-false within
+unfolding setRefusal accepted-a accepted-e2 accepted-lat0 polar same accepted-lon0 accepted-false within
 sphere-accepted = refl
 
 sphere-series : seriesOf (pos 0) ≡ coefficients (pos 0) (pos 0) (pos 0)
@@ -51,8 +54,8 @@ unfolding seriesOf k2 k4 k6 e4 e6 to-mas near nearest
 sphere-series = refl
 
 -- on the sphere β is φ
-sphere-beta : (φ : ℤ) → betaMas (seriesOf (pos 0)) φ ≡ φ
-unfolding betaMas rounded terms
+sphere-beta : (φ : ℤ) → beta (seriesOf (pos 0)) (record { 0 = φ }) .0 ≡ φ
+unfolding beta rounded terms
 sphere-beta φ =
     ap (λ (k : AuthalicSeries). φ -ℤ near (k .k2 *ℤ sine (pos 2 *ℤ φ) -ℤ k .k4 *ℤ sine (pos 4 *ℤ φ) +ℤ k .k6 *ℤ sine (pos 6 *ℤ φ)) unit) sphere-series
     ∙ ap (λ (z : ℤ). φ -ℤ near z unit) (none (sine (pos 2 *ℤ φ)) (sine (pos 4 *ℤ φ)) (sine (pos 6 *ℤ φ)))
@@ -62,11 +65,11 @@ sphere-beta φ =
     none : (x y z : ℤ) → pos 0 *ℤ x -ℤ pos 0 *ℤ y +ℤ pos 0 *ℤ z ≡ pos 0
     none x y z = ring (x ∷ y ∷ z ∷ []) (search quote depth 40 fits 20000) tt
 
-sphere-S0 : S0 (pos 0) (pos 0) ≡ pos 0
+sphere-S0 : S0 (pos 0) equator ≡ pos 0
 unfolding S0 β0
 sphere-S0 = ap sine (sphere-beta (pos 0)) ∙ sine-zero
 
-sphere-C0 : C0 (pos 0) (pos 0) ≡ U
+sphere-C0 : C0 (pos 0) equator ≡ U
 unfolding C0 β0
 sphere-C0 = ap cosine (sphere-beta (pos 0)) ∙ cosine-zero
 
@@ -74,16 +77,16 @@ sphere-J : J (pos 0) ≡ U
 unfolding J W e4 e6 near nearest
 sphere-J = ap pos root-unit
 
-sphere-V : «V» (pos 0) (pos 0) ≡ U
+sphere-V : «V» (pos 0) equator ≡ U
 unfolding «V»
 sphere-V = rw (zero-*ℤ (near (sine (pos 0) *ℤ sine (pos 0)) unit), near-zero unit some) refl
 
-sphere-m : m (pos 0) (pos 0) ≡ U
+sphere-m : m (pos 0) equator ≡ U
 unfolding m
 sphere-m =
     ap₂ (λ (x y : ℤ). near (x *ℤ U) (root (natAbs (y *ℤ U)))) cosine-zero sphere-V ∙ ap (near (U *ℤ U)) root-unit ∙ near-whole U unit some
 
-sphere-D : D (pos 0) (pos 0) ≡ U
+sphere-D : D (pos 0) equator ≡ U
 unfolding D polar same within
 sphere-D =
     ap₂ (λ (x y : ℤ). near (x *ℤ U) (natAbs y)) sphere-m (ap₂ (λ (x y : ℤ). near (x *ℤ y) unit) sphere-J sphere-C0 ∙ near-whole U unit some)
@@ -114,55 +117,54 @@ fields = (sphere-S0, sphere-C0, sphere-RD, sphere-RN)
 quarter : ℤ
 quarter = pos 324_000_000
 
-quarter-b : b k (pos 0) quarter ≡ pos 0
+quarter-b : b k equator quarter ≡ pos 0
 unfolding b k constantsOf
 quarter-b = ap sine (sphere-beta (pos 0)) ∙ sine-zero
 
-quarter-c : c k (pos 0) quarter ≡ U
+quarter-c : c k equator quarter ≡ U
 unfolding c k constantsOf
 quarter-c = ap cosine (sphere-beta (pos 0)) ∙ cosine-zero
 
-quarter-u : u k (pos 0) quarter ≡ U
+quarter-u : u k equator quarter ≡ U
 unfolding u quarter
 quarter-u = ap₂ (λ (x y : ℤ). near (x *ℤ y) unit) quarter-c sine-right ∙ near-whole U unit some
 
-quarter-v : v k (pos 0) quarter ≡ pos 0
+quarter-v : v k equator quarter ≡ pos 0
 unfolding v quarter
 quarter-v = ap₂ (λ (x y : ℤ). near (x *ℤ y) unit) quarter-c cosine-right ∙ near-zero unit some
 
-quarter-w : w k (pos 0) quarter ≡ pos 0
+quarter-w : w k equator quarter ≡ pos 0
 unfolding w
 quarter-w = rw (quarter-b, quarter-v, fields .0, fields .1) (near-zero unit some)
 
-quarter-G : G k (pos 0) quarter ≡ U
+quarter-G : G k equator quarter ≡ U
 unfolding G
 quarter-G = rw (quarter-b, quarter-v, fields .0, fields .1, near-zero unit some) refl
 
-quarter-H : H (G k (pos 0) quarter) ≡ 707_106_781
+quarter-H : H (G k equator quarter) ≡ 707_106_781
 unfolding H
 quarter-H = ap (λ (g : ℤ). root (natAbs (g *ℤ pos 500_000_000))) quarter-G ∙ root-half
 
-quarter-dE : dE k (pos 0) quarter ≡ pos 848_528_138
+quarter-dE : dE k equator quarter ≡ pos 848_528_138
 unfolding dE near nearest
 quarter-dE = rw (quarter-u, quarter-H, fields .2) refl
 
-quarter-dN : dN k (pos 0) quarter ≡ pos 0
+quarter-dN : dN k equator quarter ≡ pos 0
 unfolding dN near nearest
 quarter-dN = rw (quarter-w, quarter-H, fields .3) refl
 
 -- ---- the answer
 
-quarter-on-globe : on-globe (record { 0 = pos 0 }) quarter ≡ true
+quarter-on-globe : on-globe equator quarter ≡ true
 unfolding on-globe within quarter
 quarter-on-globe = refl
 
-quarter-near : near-enough (nearness sphere (record { 0 = pos 0 }) quarter) ≡ true
+quarter-near : near-enough (nearness sphere equator quarter) ≡ true
 unfolding near-enough nearness k quarter
 quarter-near = ap (leZ (pos 20_000_000)) quarter-G
 
 pub sphere-quarter : forwardOf sphere (record { 0 = pos 0 }) (pos 324_000_000) ≡ Plane (pos 848_528_138) (pos 0)
-unfolding k quarter
+unfolding k quarter eastingOf northingOf
 sphere-quarter =
-    forward-of-accepted sphere (record { 0 = pos 0 }) quarter sphere-accepted
-    ∙ forward-plane sphere (record { 0 = pos 0 }) quarter quarter-on-globe quarter-near
+    forward-plane sphere equator quarter sphere-accepted quarter-on-globe quarter-near
     ∙ ap₂ (λ (x y : ℤ). Plane (pos 0 +ℤ x) (pos 0 +ℤ y)) quarter-dE quarter-dN

@@ -2,10 +2,10 @@
 use mathlib.Core.Path.{_≡_}
 use mathlib.Core.Bool.{true, false}
 use mathlib.Core.List.{List, [], _∷_}
-use lib.IntN.{ℤ, pos, negsuc}
+use lib.IntN.{ℤ, pos, negℤ}
 use lib.Ieee.{fin}
 use Rattle.integers.specs.Near.{near}
-use Rattle.units.specs.Units.{degree, metre}
+use Rattle.units.specs.Units.{right-angle, degree, metre}
 use Rattle.floats.specs.Conversion.{wholeOf}
 use Rattle.sine_table.specs.Table.{entry}
 use Rattle.trig.specs.Sine.{sine}
@@ -39,20 +39,24 @@ sphere =
       «false_northing» = pos 0;
     }
 
--- `negsuc n` is −(n + 1); a double is its sign, m and e, m · 2^e in size: 1/256 is 1 · 2^−8
+-- A double is its sign (true: negative), m and e, and its size m · 2^e: 1/256 is 1 · 2^−8.
 abbrev pub P : List Case
 P =
     (near (pos 5) 2 is pos 3)
-    ∷ (near (negsuc 4) 2 is negsuc 2)
+    ∷ (near (negℤ (pos 5)) 2 is negℤ (pos 3))
     ∷ (pos (entry 1) is pos 290_888)
     ∷ (pos (entry 5399) is pos 999_999_958)
     ∷ (sine (pos 1) is pos 5)
-    ∷ (sine (negsuc 107_999_999) is negsuc 499_999_999)
+    ∷ (sine (negℤ (pos 108_000_000)) is negℤ (pos 500_000_000))
     ∷ (pos (angle 7 7) is pos 162_000_000)
     ∷ (pos (angle 0 1) is pos 324_000_000)
     ∷ (pos (angle 0 0) is pos 0)
-    ∷ (forwardOf sphere (record { 0 = pos 0 }) (pos 324_000_000) goes-to Plane (pos 848_528_138) (pos 0))
-    ∷ (wholeOf degree (fin false 1 (negsuc 7)) is pos 14_063)
-    ∷ (wholeOf degree (fin true 1 (negsuc 7)) is negsuc 14_062)
-    ∷ (wholeOf metre (fin false 1 (negsuc 2)) is pos 13)
+    ∷ (wholeOf degree (fin false 1 (negℤ (pos 8))) is pos 14_063)
+    ∷ (wholeOf degree (fin true 1 (negℤ (pos 8))) is negℤ (pos 14_063))
+    ∷ (wholeOf metre (fin false 1 (negℤ (pos 3))) is pos 13)
+    ∷ (forwardOf sphere (record { 0 = pos 0 }) (pos right-angle) goes-to Plane (pos 848_528_138) (pos 0))
     ∷ []
+
+-- "Proved together as a single table, marked P"
+abbrev pub AllMarked : Type 0
+AllMarked = All P

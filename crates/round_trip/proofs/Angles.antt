@@ -95,14 +95,14 @@ module _ {p : Parameters} {k : Constants} {φ : Geodetic} (lon : ℤ) (g : Given
       let F = forward-steps g in
       let near = close-steps g in
       let gap = gap-attained (a .lon′ -ℤ lon) in
-      let d : ℤ = a .lon′ -ℤ lon +ℤ gap .turns *ℤ pos full-turn in
-      rw (gap .attained)
-      (aim c-size (Ez + 1) (E1 + 1) (s .f) (s .east) Δ (a .Δ′) d (negℤ (a .turns +ℤ gap .turns)) (F .c-least) (F .c-most)
+      let d : ℤ = a .lon′ -ℤ lon +ℤ gap .0 *ℤ pos full-turn in
+      rw (gap .1)
+      (aim c-size (Ez + 1) (E1 + 1) (s .f) (s .east) Δ (a .Δ′) d (negℤ (a .turns +ℤ gap .0)) (F .c-least) (F .c-most)
       (rounded-scaled (s .f) (v k φ Δ) (pos c-size *ℤ cosine Δ) (near .f-close) (F .near-v))
       (rounded-scaled (s .east) (u k φ Δ) (pos c-size *ℤ sine Δ) (near .east-close) (F .near-u))
       (lit≤ tt) (a .longitude)
-      (from-lon0 (p .lon0) lon (a .lon′) (a .Δ′) (a .turns) (gap .turns) (a .lon′-is))
-      (rw (gap .attained) at (gap-most (a .lon′ -ℤ lon))))
+      (from-lon0 (p .lon0) lon (a .lon′) (a .Δ′) (a .turns) (gap .0) (a .lon′-is))
+      (rw (gap .1) at (gap-most (a .lon′ -ℤ lon))))
     where
       -- Δ and Δ′ differ as the longitudes do, but for whole turns
       from-lon0 : (lon0 lon lon′ Δ′ i j : ℤ) → lon′ ≡ lon0 +ℤ Δ′ +ℤ i *ℤ pos full-turn →

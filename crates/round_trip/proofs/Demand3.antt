@@ -20,14 +20,15 @@ use Rattle.units.specs.Spans.{within, on-plane}
 use Rattle.parameters.specs.ParameterSet.{setRefusal}
 use Rattle.constants.specs.Derived.{β0, S0, C0, constantsOf}
 use Rattle.azimuthal_forward.specs.Steps.{c, dE, dN, near-enough}
-use Rattle.azimuthal_forward.specs.Answer.{nearness, eastingOf, northingOf}
+use Rattle.azimuthal_forward.specs.Answer.{nearness, eastingOf, northingOf, forwardOf}
 use Rattle.azimuthal_inverse.specs.Steps.{G as G′, K, on-map}
 use Rattle.azimuthal_inverse.specs.Answer.{answerFrom, inverseOf}
 use Rattle.units.proofs.Spans.{Between}
 use Rattle.parameters.proofs.AcceptedSet.{accepted, lat0-size}
 use Rattle.constants.proofs.ConstantsLaws.{sound}
 use Rattle.azimuthal_inverse.proofs.AnswerLaws.{inverse-on-plane}
-use Rattle.round_trip.specs.RoundTrip.{farthest-latitude, latitude-bound as latitude-limit, gap-bound, sharp-latitude-bound, sharp-gap-halves, longitudeGap, CloseTo, RoundTripAt, SharpRoundTrip, Demand3}
+use Rattle.round_trip.specs.RoundTrip.{longitudeGap, farthest-latitude, latitude-bound as latitude-limit, gap-bound, sharp-latitude-bound, sharp-gap-halves}
+use Rattle.round_trip.specs.RoundTrip.{Conditions, CloseTo, RoundTripAt, SharpRoundTrip, Demand3, thereAndBack, MeetsDemand3}
 use Rattle.round_trip.proofs.Numerals.{unit}
 use Rattle.round_trip.proofs.Accepted.{Accepted, accepted-forward}
 use Rattle.round_trip.proofs.Limits.{circle-of, within-limits, forward-on-plane}
@@ -108,10 +109,14 @@ module _ (p : Parameters) (φ : Geodetic) (lon : ℤ) where
   -- the bounds that the proof gives
   round-trip : RoundTripAt sharp-latitude-bound sharp-gap-halves 2 p φ lon
   unfolding RoundTripAt
-  round-trip E N ok latitude e near =
-      let g = given ok latitude near in
+  round-trip met =
+      let E = met .easting in
+      let N = met .northing in
+      let ok = met .set-accepted in
+      let g = given ok (met .from-equator) (met .near-centre) in
       let a = answer p k (sound p ok) (centred ok) eastward northward (shifts-on-map g) (shifts-near g) in
-      close-answer g a (inverseOf p E N) (inverse-is E N (accepted-forward p φ lon E N e) (forward-on-plane p φ lon E N e))
+      let there = accepted-forward p φ lon E N (met .answered) in
+      close-answer g a (inverseOf p E N) (inverse-is E N there (forward-on-plane p φ lon E N (met .answered)))
 
 -- at most 98 mas, and 53.5
 pub sharp : SharpRoundTrip
@@ -128,11 +133,9 @@ module _ (l n d l′ n′ d′ : ℕ) (more : l ≤ l′) (some : 0 < d) (ratio 
       pos-≤ℤ (le-of-mul-le-mul-left times some)
   weaker-ratio (negsuc m) h = omega (order, P-neg (pos (d′ * suc m)), N-neg (pos (d′ * suc m)))
 
-  -- a round trip within the first bounds is one within the second
-  weaker : (p : Parameters) (φ : Geodetic) (lon : ℤ) → RoundTripAt l n d p φ lon → RoundTripAt l′ n′ d′ p φ lon
-  unfolding RoundTripAt
-  weaker p φ lon trip E N ok latitude e near =
-      let close = trip E N ok latitude e near in
+  -- an answer within the first bounds is one within the second
+  weaker : (p : Parameters) (φ : Geodetic) (lon : ℤ) (result : GeodeticAnswer) → CloseTo l n d p φ lon result → CloseTo l′ n′ d′ p φ lon result
+  weaker p φ lon result close =
       record {
         φ′ = close .φ′;
         lon′ = close .lon′;
@@ -143,4 +146,15 @@ module _ (l n d l′ n′ d′ : ℕ) (more : l ≤ l′) (some : 0 < d) (ratio 
 
 -- at most 200 mas, both times
 pub demand-3 : Demand3
-demand-3 p φ lon = weaker sharp-latitude-bound sharp-gap-halves 2 latitude-limit gap-bound 1 (lit≤ tt) (lit< tt) (lit≤ tt) p φ lon (sharp p φ lon)
+unfolding RoundTripAt
+demand-3 p φ lon met =
+    weaker sharp-latitude-bound sharp-gap-halves 2 latitude-limit gap-bound 1 (lit≤ tt) (lit< tt) (lit≤ tt)
+    p φ lon (inverseOf p (met .easting) (met .northing)) (sharp p φ lon met)
+
+-- ---- there and back
+
+-- where the conditions are met, the way back starts from their easting and northing
+pub meets-demand-3 : (p : Parameters) (φ : Geodetic) (lon : ℤ) (result : GeodeticAnswer) → result ≡ thereAndBack p (forwardOf p φ lon) → MeetsDemand3 p φ lon result
+unfolding MeetsDemand3 RoundTripAt thereAndBack
+meets-demand-3 p φ lon result e met =
+    subst (CloseTo latitude-limit gap-bound 1 p φ lon) (sym (e ∙ ap (thereAndBack p) (met .answered))) (demand-3 p φ lon met)

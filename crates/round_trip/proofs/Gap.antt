@@ -12,12 +12,11 @@ use Rattle.proof_kit.proofs.Laws.{natAbs-parts, one-part, parts--}
 use Rattle.proof_kit.proofs.Ring.{ring, quote}
 use Rattle.proof_kit.proofs.Size.{abs-neg}
 use Rattle.units.specs.Units.{full-turn}
-use Rattle.round_trip.specs.RoundTrip.{turnGap}
+use Rattle.round_trip.specs.RoundTrip.{turnGap, GapLeast, GapAttained}
 
 -- a number of turns that leaves the gap
-pub record Attained (d : ℤ) : Type 0 where
-  pub turns : ℤ
-  pub attained : turnGap d ≡ natAbs (d +ℤ turns *ℤ pos full-turn)
+abbrev Attained : ℤ → Type 0
+Attained d = (turns : ℤ) × (turnGap d ≡ natAbs (d +ℤ turns *ℤ pos full-turn))
 
 -- ---- a remainder r of the turn
 
@@ -60,17 +59,15 @@ natural-attained a = at (decLe (a % full-turn) (full-turn - a % full-turn))
 
     at : Dec (a % full-turn ≤ full-turn - a % full-turn) → Attained (pos a)
     at (yes h) =
-        record {
-          turns = negℤ (pos (a / full-turn));
-          attained = rw (rest a (negℤ (pos (a / full-turn))), none-left (pos (a / full-turn)) (pos (a % full-turn))) (omega arith);
-        }
+        let turns : ℤ = negℤ (pos (a / full-turn)) in
+        (turns, rw (rest a turns, none-left (pos (a / full-turn)) (pos (a % full-turn))) (omega arith))
     at (no h) =
-        record {
-          turns = negℤ (pos (a / full-turn)) -ℤ pos 1;
-          attained =
-              rw (rest a (negℤ (pos (a / full-turn)) -ℤ pos 1), one-back (pos (a / full-turn)) (pos (a % full-turn)))
-              (omega (arith, rest-below a, natAbs-parts (pos (a % full-turn) -ℤ pos full-turn), parts-- (pos (a % full-turn)) (pos full-turn), one-part (pos (a % full-turn) -ℤ pos full-turn)));
-        }
+        let turns : ℤ = negℤ (pos (a / full-turn)) -ℤ pos 1 in
+        let r : ℤ = pos (a % full-turn) in (
+          turns,
+          rw (rest a turns, one-back (pos (a / full-turn)) r)
+              (omega (arith, rest-below a, natAbs-parts (r -ℤ pos full-turn), parts-- r (pos full-turn), one-part (r -ℤ pos full-turn))),
+        )
 
 -- ---- every difference
 
@@ -82,18 +79,16 @@ opposite x j = ap natAbs (turned x j) ∙ abs-neg (x +ℤ negℤ j *ℤ pos full
     turned x j = ring (x ∷ j ∷ []) (search quote depth 40 fits 20000) tt
 
 -- the gap is at most the size by any number of turns
-pub gap-least : (d : ℤ) (j : ℤ) → turnGap d ≤ natAbs (d +ℤ j *ℤ pos full-turn)
+pub gap-least : GapLeast
 unfolding turnGap
 gap-least (pos a) j = natural-least a j
 gap-least (negsuc n) j = rw (opposite (pos (suc n)) j) (natural-least (suc n) (negℤ j))
 
 -- and it is the size by some number of turns
-pub gap-attained : (d : ℤ) → Attained d
+pub gap-attained : GapAttained
 unfolding turnGap
 gap-attained (pos a) = natural-attained a
 gap-attained (negsuc n) =
     let at = natural-attained (suc n) in
-    record {
-      turns = negℤ (at .turns);
-      attained = at .attained ∙ sym (opposite (pos (suc n)) (negℤ (at .turns)) ∙ ap (λ (j : ℤ). natAbs (pos (suc n) +ℤ j *ℤ pos full-turn)) (negℤ-negℤ (at .turns)));
-    }
+    let back : ℤ = negℤ (at .0) in
+    (back, at .1 ∙ sym (opposite (pos (suc n)) back ∙ ap (λ (j : ℤ). natAbs (pos (suc n) +ℤ j *ℤ pos full-turn)) (negℤ-negℤ (at .0))))

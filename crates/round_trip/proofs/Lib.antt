@@ -20,4 +20,4 @@ pub mod Steps
 pub mod Answer
 pub mod Angles
 pub mod Demand3
-pub mod NotEmpty
+pub mod ConditionsMet

@@ -21,16 +21,16 @@ use Rattle.trig.proofs.Interface.{near-circle}
 use Rattle.latitudes.specs.declared.Geodetic.{Geodetic}
 use Rattle.parameters.specs.declared.Parameters.{Parameters}
 use Rattle.constants.specs.declared.Constants.{Constants}
-use Rattle.azimuthal_forward.specs.declared.PlaneAnswer.the-variants.{Plane}
 use Rattle.units.specs.Spans.{within, on-plane}
 use Rattle.parameters.specs.ParameterSet.{setRefusal}
 use Rattle.latitudes.specs.Latitude.{beta}
 use Rattle.constants.specs.Derived.{β0, S0, C0, constantsOf}
 use Rattle.azimuthal_forward.specs.Steps.{H, b, c, u, v, w, G, dE, dN, near-enough}
-use Rattle.azimuthal_forward.specs.Answer.{nearness, eastingOf, northingOf, forwardOf}
+use Rattle.azimuthal_forward.specs.Answer.{nearness, eastingOf, northingOf}
 use Rattle.parameters.proofs.AcceptedSet.{accepted}
 use Rattle.constants.proofs.ConstantsLaws.{Sound, sound}
 use Rattle.azimuthal_forward.proofs.ForwardLaws.{b-size, c-size, u-size, v-size, w-size, sum-size, H-least}
+use Rattle.round_trip.specs.RoundTrip.{ForwardOnPlane}
 use Rattle.round_trip.proofs.Accepted.{accepted-forward}
 use Rattle.round_trip.proofs.Forward.{three-circles}
 use Rattle.round_trip.proofs.Numerals.{unit, half}
@@ -156,7 +156,7 @@ steps-on-plane p φ lon ok enough =
     (coordinate (p .«false_northing») (dN k φ Δ) (accepted p ok .northing-size) (dN-size k (sound p ok) (circle-of p) φ Δ least))
 
 -- every accepted forward answer, of every accepted set, lies within the limits of refusal 3
-pub forward-on-plane : (p : Parameters) (φ : Geodetic) (lon E N : ℤ) → forwardOf p φ lon ≡ Plane E N → on-plane E N ≡ true
+pub forward-on-plane : ForwardOnPlane
 forward-on-plane p φ lon E N e =
     let answer = accepted-forward p φ lon E N e in
     rw (answer .easting, answer .northing) at (steps-on-plane p φ lon (answer .set-accepted) (answer .enough))

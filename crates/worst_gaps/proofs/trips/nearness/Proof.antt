@@ -16,7 +16,7 @@ direction-of-requires : tie.Need-direction-of-requires
 direction-of-requires c κs =
     let start = c .before .before in
     let constants = sound-as (start .args .p) (start .args .k) (start .pre .1) (start .pre .2) in
-    (start .pre .0, constants .small, constants .turned, start .pre .3, rw as-size (read-size (search (code, start .pre .4, accepted (start .args .p) (start .pre .1) .lon0-size) depth 40 fits 20000) tt))
+    (start .pre .0, constants .small, constants .centre, start .pre .3, rw as-size (read-size (search (code, start .pre .4, accepted (start .args .p) (start .pre .1) .lon0-size) depth 40 fits 20000) tt))
 
 returns : tie.Need-returns
 returns c = search needs
