@@ -15,7 +15,7 @@ use printing::words::word;
 
 type Numbers = [f64; 8];
 
-fn element(place: u64, found: Marked, right: Marked) {
+fn element(place: u64, found: Row, right: Row) {
     word(words::ELEMENT);
     size(place);
     compare(found, right);
@@ -32,12 +32,12 @@ fn elements(
     let right_marks = [0, 2, 3, 4, 0, 2, 3, 2];
     let mut i = 0;
     while i < 8 {
-        let found = Marked {
+        let found = Row {
             mark: marks[i],
             first: firsts[i],
             second: seconds[i],
         };
-        let right = Marked {
+        let right = Row {
             mark: right_marks[i],
             first: right_firsts[i],
             second: right_seconds[i],

@@ -16,8 +16,8 @@ use printing::words;
 use printing::words::word;
 
 // An answer that is accepted.
-pub(crate) fn answer(first: f64, second: f64) -> Marked {
-    Marked {
+pub(crate) fn answer(first: f64, second: f64) -> Row {
+    Row {
         mark: 0,
         first,
         second,
@@ -25,15 +25,15 @@ pub(crate) fn answer(first: f64, second: f64) -> Marked {
 }
 
 // An answer that is refused.
-pub(crate) fn refused(number: u8) -> Marked {
-    Marked {
+pub(crate) fn refused(number: u8) -> Row {
+    Row {
         mark: number,
         first: 0.0,
         second: 0.0,
     }
 }
 
-fn show(m: Marked) {
+fn show(m: Row) {
     if m.mark != 0 {
         refusal(m.mark);
     } else {
@@ -42,7 +42,7 @@ fn show(m: Marked) {
 }
 
 // Both numbers alike in every bit, and the mark.
-fn are_alike(m: Marked, n: Marked) -> bool {
+fn are_alike(m: Row, n: Row) -> bool {
     if m.mark != n.mark {
         return false;
     }
@@ -53,7 +53,7 @@ fn are_alike(m: Marked, n: Marked) -> bool {
 }
 
 // The end of a row.
-pub(crate) fn compare(found: Marked, right: Marked) {
+pub(crate) fn compare(found: Row, right: Row) {
     word(words::ANSWER);
     show(found);
     word(words::EXPECTED);
@@ -61,7 +61,7 @@ pub(crate) fn compare(found: Marked, right: Marked) {
     verdict(are_alike(found, right));
 }
 
-fn forward_answer(p: Parameters, latitude: f64, longitude: f64) -> Marked {
+fn forward_answer(p: Parameters, latitude: f64, longitude: f64) -> Row {
     let at = GeodeticPair {
         latitude,
         longitude,
@@ -73,7 +73,7 @@ fn forward_answer(p: Parameters, latitude: f64, longitude: f64) -> Marked {
     }
 }
 
-fn inverse_answer(p: Parameters, first: f64, second: f64) -> Marked {
+fn inverse_answer(p: Parameters, first: f64, second: f64) -> Row {
     let at = PlanePair { first, second };
     let found = inverse_metres(p, at);
     match found {
@@ -83,14 +83,14 @@ fn inverse_answer(p: Parameters, first: f64, second: f64) -> Marked {
 }
 
 // Degrees to metres.
-pub(crate) fn degrees_row(p: Parameters, lat: f64, lon: f64, right: Marked) {
+pub(crate) fn degrees_row(p: Parameters, lat: f64, lon: f64, right: Row) {
     word(words::DEGREES);
     show_both(lat, lon);
     compare(forward_answer(p, lat, lon), right);
 }
 
 // Metres to degrees.
-pub(crate) fn metres_row(p: Parameters, x: f64, y: f64, right: Marked) {
+pub(crate) fn metres_row(p: Parameters, x: f64, y: f64, right: Row) {
     word(words::METRES);
     show_both(x, y);
     compare(inverse_answer(p, x, y), right);
