@@ -1,13 +1,15 @@
--- `numbers::read_number` meets its contract: a minus is taken off, or the bytes are digits. Assumes nothing.
+-- `text::read_number` meets its contract: a minus is taken off, or the bytes are digits. Assumes nothing.
 use mathlib.Core.Path.{sym, ap, _∙_}
 use mathlib.Core.Bool.{true}
+use mathlib.Core.List.{List}
+use Prim.Native.Nat.{ℕ}
 use native.Mathlib.Omega.{arith}
-use Rattle.lines.specs.Numbers.{unsignedOf}
-use Rattle.lines.proofs.Writing.{rest-of}
-use Rattle.lines.proofs.Digits.{number-empty, number-minus, number-plain}
+use Rattle.text.specs.Numbers.{unsignedOf}
+use Rattle.text.proofs.Cutting.{rest-of}
+use Rattle.text.proofs.Numerals.{number-empty, number-minus, number-plain}
 use borrow.Author.Needs.{needs}
-use Rattle.lines.proofs.numbers.read_number.Statement.{statement}
-use Rattle.lines.proofs.numbers.read_number.Tie as tie
+use Rattle.text.proofs.read_number.Statement.{statement}
+use Rattle.text.proofs.read_number.Tie as tie
 
 returns : tie.Need-returns
 returns c = sym (number-empty _ (c .if1 .taken))
@@ -29,18 +31,20 @@ read-unsigned-requires c κs = search needs
 
 returns-2 : tie.Need-returns-2
 returns-2 c =
-    let start = c .before .before .before .before .before .before in
+    let head = c .before .before in
+    let bytes = head .before .before .before .before .args .bytes .now in
     c .read-unsigned .ensures
-    ∙ ap (unsignedOf true) (rest-of 1 (start .args .bytes .now))
-    ∙ sym (number-minus (start .args .bytes .now) (omega arith) (c .before .before .if2 .taken))
+    ∙ ap (unsignedOf true) (rest-of 1 bytes)
+    ∙ sym (number-minus bytes (omega arith) (head .if2 .taken))
 
 read-unsigned-requires-2 : tie.Need-read-unsigned-requires-2
 read-unsigned-requires-2 c κs = search needs
 
 returns-3 : tie.Need-returns-3
 returns-3 c =
-    let start = c .before .before .before .before .before in
-    c .read-unsigned2 .ensures ∙ sym (number-plain (start .args .bytes .now) (omega arith) (c .before .if2 .left))
+    let head = c .before in
+    let bytes = head .before .before .before .before .args .bytes .now in
+    c .read-unsigned2 .ensures ∙ sym (number-plain bytes (omega arith) (head .if2 .left))
 
 pub read-number-spec : {M : Type 1} → statement M
 read-number-spec =

@@ -1,25 +1,29 @@
-// Whole numbers as text, in ASCII bytes.
+// Bytes of ASCII text: whole numbers read from them and written into them.
 use integers::magnitude;
 use integers::signed;
 ghost use mathlib.Core.Path.{_≡_};
 ghost use Prim.Native.Nat.{_+_, _≤_};
 ghost use lib.ListN.{length};
-ghost use Rattle.lines.specs.Numbers.{unsignedOf, numberOf, decimal, numberText, written};
+ghost use Rattle.text.specs.Numbers.{unsignedOf, numberOf, decimal, numberText};
+ghost use Rattle.text.specs.Pasting.{Put};
 
-// What bytes spell: a number, or no number of the paper's form.
+// What bytes spell: a number of one to ten digits, or something else.
 pub enum Numeral {
     Number(i64),
     Other,
 }
 
+// The most digits that are read; a number of so many fits an i64.
+const DIGITS_MOST: usize = 10;
+
 // The number of one to ten digits, with the sign that stood before them.
-fn read_unsigned(negative: bool, digits: &[u8]) -> Numeral
+pub fn read_unsigned(negative: bool, digits: &[u8]) -> Numeral
     ensures { λ r. ⌜ r ≡ unsignedOf negative (now (digits .entry)) ⌝ }
 {
     if digits.len() == 0 {
         return Numeral::Other;
     }
-    if 10 < digits.len() {
+    if DIGITS_MOST < digits.len() {
         return Numeral::Other;
     }
     let mut value: u64 = 0;
@@ -38,7 +42,7 @@ fn read_unsigned(negative: bool, digits: &[u8]) -> Numeral
     Numeral::Number(signed(negative, value))
 }
 
-// The number that bytes spell, if they do.
+// The number of one to ten digits, with or without a minus before them.
 pub fn read_number(bytes: &[u8]) -> Numeral
     ensures { λ r. ⌜ r ≡ numberOf (now (bytes .entry)) ⌝ }
 {
@@ -51,10 +55,18 @@ pub fn read_number(bytes: &[u8]) -> Numeral
     read_unsigned(false, bytes)
 }
 
-// Writes a number's digits at an index and answers the index after them.
-fn put_digits(out: &mut [u8], at: usize, n: u64) -> usize
+// Writes bytes at an index and answers the index after them.
+pub fn put_bytes(out: &mut [u8], at: usize, bytes: &[u8]) -> usize
+    requires { ⌜ at + length (now bytes) ≤ length (now out) ⌝ }
+    ensures { λ r. ⌜ Put (now (out .entry)) at (now (bytes .entry)) (now (out .exit)) r ⌝ }
+{
+    at + bytes::copy(bytes, &mut out[at..])
+}
+
+// Writes a number's digits, without leading zeros, at an index and answers the index after them.
+pub fn put_digits(out: &mut [u8], at: usize, n: u64) -> usize
     requires { ⌜ at + length (decimal n) ≤ length (now out) ⌝ }
-    ensures { λ r. ⌜ (now (out .exit) ≡ written (now (out .entry)) at (decimal n)) × (r ≡ at + length (decimal n)) ⌝ }
+    ensures { λ r. ⌜ Put (now (out .entry)) at (decimal n) (now (out .exit)) r ⌝ }
 {
     if n < 10 {
         out[at] = b'0' + n as u8;
@@ -68,7 +80,7 @@ fn put_digits(out: &mut [u8], at: usize, n: u64) -> usize
 // Writes a number at an index and answers the index after it.
 pub fn put_number(out: &mut [u8], at: usize, z: i64) -> usize
     requires { ⌜ at + length (numberText z) ≤ length (now out) ⌝ }
-    ensures { λ r. ⌜ (now (out .exit) ≡ written (now (out .entry)) at (numberText z)) × (r ≡ at + length (numberText z)) ⌝ }
+    ensures { λ r. ⌜ Put (now (out .entry)) at (numberText z) (now (out .exit)) r ⌝ }
 {
     if z < 0 {
         out[at] = b'-';
