@@ -56,12 +56,23 @@ pasted-more xs at ys zs inside =
 
 -- ---- what calls leave, one after the other
 
+pub room-first : (at : ℕ) (ys zs : List ℕ) {n : ℕ} → at + length (ys ++ zs) ≤ n → at + length ys ≤ n
+room-first at ys zs room = omega (arith, length-append ys zs)
+
 module _ {xs : List ℕ} {at : ℕ} {ys out : List ℕ} {end : ℕ} (p : Put xs at ys out end) where
   -- another name for the text
   pub put-as : {zs : List ℕ} → ys ≡ zs → Put xs at zs out end
   put-as e = record { bytes = p .bytes ∙ ap (pasted xs at) e; next = p .next ∙ ap (λ (l : List ℕ). at + length l) e }
 
-  -- another text after it
+  pub put-length : at + length ys ≤ length xs → length out ≡ length xs
+  put-length room = ap length (p .bytes) ∙ length-pasted xs at ys room
+
+  -- another text after it, for which there is room where there is for both
+  pub room-after : (zs : List ℕ) → at + length (ys ++ zs) ≤ length xs → end + length zs ≤ length out
+  room-after zs room =
+      let long : length out ≡ length xs = put-length (omega (arith, length-append ys zs)) in
+      omega (arith, p .next, length-append ys zs)
+
   pub put-both : {zs out₂ : List ℕ} {end₂ : ℕ} → at ≤ length xs → Put out end zs out₂ end₂ → Put xs at (ys ++ zs) out₂ end₂
   put-both {zs} inside q = record {
     bytes = q .bytes ∙ ap₂ (λ (l : List ℕ) (n : ℕ). pasted l n zs) (p .bytes) (p .next) ∙ pasted-more xs at ys zs inside;
@@ -71,7 +82,7 @@ module _ {xs : List ℕ} {at : ℕ} {ys out : List ℕ} {end : ℕ} (p : Put xs 
   -- one byte after it
   pub put-next : (b : ℕ) → end < length xs → Put xs at (ys ++ (b ∷ [])) (set out end b) (end + 1)
   put-next b room =
-      let long : length out ≡ length xs = ap length (p .bytes) ∙ length-pasted xs at ys (omega (arith, p .next)) in
+      let long : length out ≡ length xs = put-length (omega (arith, p .next)) in
       put-both (omega (arith, p .next)) (record { bytes = pasted-one out end b (omega arith); next = omega arith })
 
 -- nothing, and one byte
