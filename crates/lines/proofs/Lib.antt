@@ -1,8 +1,4 @@
-pub mod Writing
-pub mod Digits
-pub mod Fields
-pub mod Requests
-pub mod Long
-pub mod Answers
-pub mod AnswerSizes
+pub mod Etrs
+pub mod Sizes
+pub mod Kept
 pub mod Paper

@@ -1,0 +1,4 @@
+pub mod Pasting
+pub mod Cutting
+pub mod Digits
+pub mod Numerals

@@ -1,0 +1,4 @@
+pub mod Numbers
+pub mod Pasting
+pub mod Cutting
+pub mod Theorems
