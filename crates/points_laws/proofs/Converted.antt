@@ -1,144 +1,140 @@
--- An accepted answer is the whole-unit answer converted; so its floats are finite, and taken back they are its whole numbers.
--- Assumes nothing.
+-- An answer that is a pair has the number 0, so each of its tests is passed: the set is accepted, and the rounded position passes the tests of the
+-- whole-unit call. So the answer is the whole-unit answer converted. That answer lies within the limits of its coordinates, so its floats are finite,
+-- and taken back they are its whole numbers. Assumes nothing.
 use mathlib.Core.Path.{_≡_, refl, sym, ap, ap₂, _∙_}
-use mathlib.Core.Bool.{Bool, true, false, false≢true}
-use Prim.Native.Nat.{ℕ, zero, suc, _≤_}
-use lib.IntN.{ℤ, pos, natAbs}
+use mathlib.Core.Bool.{Bool, true}
+use Prim.Native.Nat.{ℕ, zero, suc}
+use lib.IntN.{ℤ}
 use Rattle.proof_kit.proofs.Order.{<ℤ-≤ℤ, abs-between}
-use Rattle.floats.proofs.Coordinates.{latitude, longitude, plane, float-finite, float-back}
+use Rattle.units.specs.Refusals.{unless, firstOf}
+use Rattle.units.proofs.Spans.{plane-sizes}
+use Rattle.units.proofs.Chains.{link-passed}
+use Rattle.floats.proofs.Coordinates.{latitude, longitude, plane}
 use Rattle.latitudes.specs.declared.Geodetic.{Geodetic}
 use Rattle.parameters.specs.declared.Parameters.{Parameters}
-use Rattle.azimuthal_forward.specs.declared.PlaneAnswer.{PlaneAnswer}
-use Rattle.azimuthal_forward.specs.declared.PlaneAnswer.the-variants.{Plane, Refused as PlaneRefused}
-use Rattle.azimuthal_inverse.specs.declared.GeodeticAnswer.{GeodeticAnswer}
-use Rattle.azimuthal_inverse.specs.declared.GeodeticAnswer.the-variants.{Position, Refused as GeodeticRefused}
 use Rattle.parameters.specs.ParameterSet.{setRefusal}
-use Rattle.azimuthal_forward.specs.Answer.{forwardOf}
-use Rattle.azimuthal_inverse.specs.Answer.{inverseOf}
-use Rattle.units.proofs.Spans.{plane-sizes}
+use Rattle.azimuthal_forward.specs.declared.PlaneAnswer.the-variants.{Plane}
+use Rattle.azimuthal_forward.specs.Answer.{forwardFar, forwardRefusal, eastingOf, northingOf, forwardOf}
+use Rattle.azimuthal_inverse.specs.declared.GeodeticAnswer.the-variants.{Position}
+use Rattle.azimuthal_inverse.specs.Answer.{inverseFar, inverseRefusal, inverseLatitude, inverseLongitude, inverseOf}
 use Rattle.projection_laws.proofs.Ranges.{position-in-range}
 use Rattle.round_trip.proofs.Limits.{forward-on-plane}
 use Rattle.points.specs.declared.pairs.GeodeticPair.{GeodeticPair}
 use Rattle.points.specs.declared.pairs.PlanePair.{PlanePair}
-use Rattle.points.specs.declared.pairs.PlanePairAnswer.{PlanePairAnswer}
-use Rattle.points.specs.declared.pairs.PlanePairAnswer.the-variants.{Metres, Refused}
-use Rattle.points.specs.declared.pairs.GeodeticPairAnswer.{GeodeticPairAnswer}
-use Rattle.points.specs.declared.pairs.GeodeticPairAnswer.the-variants.{Degrees, Refused as NotFound}
-use Rattle.points.specs.Pairs.{areFinite, withinGlobe, withinPlane, latitudeMas, longitudeMas, eastingCm, northingCm, planePair, geodeticPair, inMetres, inDegrees, tested, after, forwardPair, inversePair, forwardDegrees, inverseMetres}
+use Rattle.points.specs.declared.pairs.PlanePairAnswer.the-variants.{Metres}
+use Rattle.points.specs.declared.pairs.GeodeticPairAnswer.the-variants.{Degrees}
+use Rattle.points.specs.Pairs.{latitudeMas, longitudeMas, eastingCm, northingCm, areFinite, withinGlobe, withinPlane, plane-row, geodetic-row}
+use Rattle.points.specs.Pairs.{forwardPairRefusal, forwardPair, forwardDegrees, forwardRow, inversePairRefusal, inversePair, inverseMetres, inverseRow}
+use Rattle.points.proofs.AnswerLaws.{forward-tells, inverse-tells, rounded-on-globe, rounded-on-plane}
+use Rattle.points.proofs.AnswerLaws.{forward-converted as converted-forward, inverse-converted as converted-inverse}
 use Rattle.points_laws.specs.Theorems.{ForwardConverted, InverseConverted, ForwardFinite, InverseFinite, ForwardBack, InverseBack}
+use Rattle.points_laws.proofs.Rows.{nothing, row-values}
+use Rattle.points_laws.proofs.Floats.{Floats, each-finite, first-back, second-back}
 
--- a call whose answer is a pair has passed every test
-module _ {A : Type 0} (is-pair : A → Bool) (refusedBy : ℕ → A) (no-pair : (n : ℕ) → is-pair (refusedBy n) ≡ false) {pair : A} (a-pair : is-pair pair ≡ true) where
-  clash : (n : ℕ) → refusedBy n ≡ pair → ⊥
-  clash n e = false≢true (sym (no-pair n) ∙ ap is-pair e ∙ a-pair)
+-- ---- a chain of the tests of a single call that gives 0
 
-  last-answer : (n : ℕ) (f g : Bool) (answer : A) → after refusedBy n (tested refusedBy f g answer) ≡ pair → answer ≡ pair
-  last-answer zero true true answer e = e
-  last-answer zero true false answer e = absurd (clash 3 e)
-  last-answer zero false g answer e = absurd (clash 2 e)
-  last-answer (suc n) f g answer e = absurd (clash (suc n) e)
+pub record Passed (set : ℕ) (finite inside : Bool) (far : ℕ) : Type 0 where
+  pub set-passed : set ≡ 0
+  pub finite-passed : finite ≡ true
+  pub inside-passed : inside ≡ true
+  pub far-passed : far ≡ 0
 
-  no-refusal : (n : ℕ) (answer : A) → after refusedBy n answer ≡ pair → n ≡ 0
-  no-refusal zero answer e = refl
-  no-refusal (suc n) answer e = absurd (clash (suc n) e)
+all-passed : (set : ℕ) (finite inside : Bool) (far : ℕ) → firstOf set (unless finite 2 (unless inside 3 far)) ≡ 0 → Passed set finite inside far
+all-passed zero finite inside far h =
+    let second = link-passed finite 1 h in
+    let third = link-passed inside 2 (second .1) in
+    record { set-passed = refl; finite-passed = second .0; inside-passed = third .0; far-passed = third .1 }
+all-passed (suc n) finite inside far h = nothing h
 
 -- ---- forward
 
-abbrev is-metres : PlanePairAnswer → Bool
-is-metres (Metres pair) = true
-is-metres (Refused n) = false
+module _ (p : Parameters) (at : GeodeticPair) (pair : PlanePair) (e : forwardDegrees p at ≡ Metres pair) where
+  abbrev φ : Geodetic
+  φ = latitudeMas at
 
-abbrev metres-of : PlanePairAnswer → PlanePair
-metres-of (Metres pair) = pair
-metres-of (Refused n) = planePair (pos 0) (pos 0)
+  abbrev lon : ℤ
+  lon = longitudeMas at
+
+  forward-told : (forwardPairRefusal p at ≡ 0) × (forwardPair p at .first ≡ pair .first) × (forwardPair p at .second ≡ pair .second)
+  unfolding forwardRow
+  forward-told = row-values (forwardPairRefusal p at) _ _ _ _ (sym (forward-tells p at) ∙ ap plane-row e)
+
+  pub forward-passed : Passed (setRefusal p) (areFinite (at .latitude) (at .longitude)) (withinGlobe at) (forwardFar p φ lon)
+  unfolding forwardPairRefusal
+  forward-passed = all-passed _ _ _ _ (forward-told .0)
+
+  plane-answer : forwardOf p φ lon ≡ Plane (eastingOf p φ lon) (northingOf p φ lon)
+  unfolding forwardOf forwardRefusal
+  plane-answer = rw (forward-passed .set-passed, rounded-on-globe p at (forward-passed .inside-passed), forward-passed .far-passed)
+
+  pub forward-floats : Floats plane plane (eastingOf p φ lon) (northingOf p φ lon) (pair .first) (pair .second)
+  unfolding forwardPair
+  forward-floats =
+      let size = plane-sizes (eastingOf p φ lon) (northingOf p φ lon) (forward-on-plane p φ lon _ _ plane-answer) in
+      record {
+        first-size = size .0;
+        second-size = size .1;
+        first-is = sym (forward-told .1);
+        second-is = sym (forward-told .2);
+      }
 
 pub forward-converted : ForwardConverted
-unfolding forwardDegrees forwardPair
-forward-converted p at pair e = sym (last-answer is-metres Refused (λ n. refl) refl (setRefusal p) (areFinite (at .latitude) (at .longitude)) (withinGlobe at) _ e)
-
-pub forward-set-accepted : (p : Parameters) (at : GeodeticPair) (pair : PlanePair) → forwardDegrees p at ≡ Metres pair → setRefusal p ≡ 0
-unfolding forwardDegrees
-forward-set-accepted p at pair e = no-refusal is-metres Refused (λ n. refl) refl (setRefusal p) _ e
-
--- the whole numbers of an answer in metres
-pub record PlaneWhole (answer : PlaneAnswer) (pair : PlanePair) : Type 0 where
-  pub E : ℤ
-  pub N : ℤ
-  pub whole : answer ≡ Plane E N
-  pub floats : pair ≡ planePair E N
-
-plane-whole : (answer : PlaneAnswer) (pair : PlanePair) → Metres pair ≡ inMetres answer → PlaneWhole answer pair
-plane-whole (Plane E N) pair e = record { E = E; N = N; whole = refl; floats = ap metres-of e }
-plane-whole (PlaneRefused n) pair e = absurd (false≢true (sym (ap is-metres e)))
-
-module _ (p : Parameters) (at : GeodeticPair) (pair : PlanePair) (e : forwardDegrees p at ≡ Metres pair) where
-  pub metres-whole : PlaneWhole (forwardOf p (latitudeMas at) (longitudeMas at)) pair
-  metres-whole = plane-whole (forwardOf p (latitudeMas at) (longitudeMas at)) pair (forward-converted p at pair e)
-
-  pub metres-size : (natAbs (metres-whole .E) ≤ 5_000_000_000) × (natAbs (metres-whole .N) ≤ 5_000_000_000)
-  metres-size = plane-sizes (metres-whole .E) (metres-whole .N) (forward-on-plane p (latitudeMas at) (longitudeMas at) (metres-whole .E) (metres-whole .N) (metres-whole .whole))
+forward-converted p at pair e =
+    let passed = forward-passed p at pair e in
+    sym e ∙ converted-forward p at (passed .set-passed) (passed .finite-passed) (passed .inside-passed)
 
 pub forward-finite : ForwardFinite
-forward-finite p at pair e =
-    rw (metres-whole p at pair e .floats)
-    (float-finite plane (metres-whole p at pair e .E) (metres-size p at pair e .0), float-finite plane (metres-whole p at pair e .N) (metres-size p at pair e .1))
+forward-finite p at pair e = each-finite (forward-floats p at pair e)
 
 pub forward-back : ForwardBack
 unfolding eastingCm northingCm
 forward-back p at pair e =
-    let x = metres-whole p at pair e in
-    x .whole
-    ∙ ap₂ Plane
-    (sym (ap eastingCm (x .floats) ∙ float-back plane (x .E) (metres-size p at pair e .0)))
-    (sym (ap northingCm (x .floats) ∙ float-back plane (x .N) (metres-size p at pair e .1)))
+    let floats = forward-floats p at pair e in
+    plane-answer p at pair e ∙ ap₂ Plane (sym (first-back floats)) (sym (second-back floats))
 
--- ---- back
-
-abbrev is-degrees : GeodeticPairAnswer → Bool
-is-degrees (Degrees pair) = true
-is-degrees (NotFound n) = false
-
-abbrev degrees-of : GeodeticPairAnswer → GeodeticPair
-degrees-of (Degrees pair) = pair
-degrees-of (NotFound n) = geodeticPair (pos 0) (pos 0)
-
-pub inverse-converted : InverseConverted
-unfolding inverseMetres inversePair
-inverse-converted p at pair e = sym (last-answer is-degrees NotFound (λ n. refl) refl (setRefusal p) (areFinite (at .first) (at .second)) (withinPlane at) _ e)
-
--- the whole numbers of an answer in degrees
-record GeodeticWhole (answer : GeodeticAnswer) (pair : GeodeticPair) : Type 0 where
-  pub φ : Geodetic
-  pub lon : ℤ
-  pub whole : answer ≡ Position φ lon
-  pub floats : pair ≡ geodeticPair (φ .0) lon
-
-geodetic-whole : (answer : GeodeticAnswer) (pair : GeodeticPair) → Degrees pair ≡ inDegrees answer → GeodeticWhole answer pair
-geodetic-whole (Position φ lon) pair e = record { φ = φ; lon = lon; whole = refl; floats = ap degrees-of e }
-geodetic-whole (GeodeticRefused n) pair e = absurd (false≢true (sym (ap is-degrees e)))
+-- ---- inverse
 
 module _ (p : Parameters) (at : PlanePair) (pair : GeodeticPair) (e : inverseMetres p at ≡ Degrees pair) where
-  degrees-whole : GeodeticWhole (inverseOf p (eastingCm at) (northingCm at)) pair
-  degrees-whole = geodetic-whole (inverseOf p (eastingCm at) (northingCm at)) pair (inverse-converted p at pair e)
+  abbrev E : ℤ
+  E = eastingCm at
 
-  latitude-size : natAbs (degrees-whole .φ .0) ≤ 324_000_000
-  latitude-size = position-in-range p (eastingCm at) (northingCm at) (degrees-whole .φ) (degrees-whole .lon) (degrees-whole .whole) .0
+  abbrev N : ℤ
+  N = northingCm at
 
-  longitude-size : natAbs (degrees-whole .lon) ≤ 648_000_000
-  longitude-size =
-      let r = position-in-range p (eastingCm at) (northingCm at) (degrees-whole .φ) (degrees-whole .lon) (degrees-whole .whole) in
-      abs-between (degrees-whole .lon) (<ℤ-≤ℤ (r .1)) (r .2)
+  inverse-told : (inversePairRefusal p at ≡ 0) × (inversePair p at .latitude ≡ pair .latitude) × (inversePair p at .longitude ≡ pair .longitude)
+  unfolding inverseRow
+  inverse-told = row-values (inversePairRefusal p at) _ _ _ _ (sym (inverse-tells p at) ∙ ap geodetic-row e)
+
+  pub inverse-passed : Passed (setRefusal p) (areFinite (at .first) (at .second)) (withinPlane at) (inverseFar p E N)
+  unfolding inversePairRefusal
+  inverse-passed = all-passed _ _ _ _ (inverse-told .0)
+
+  geodetic-answer : inverseOf p E N ≡ Position (inverseLatitude p E N) (inverseLongitude p E N)
+  unfolding inverseOf inverseRefusal
+  geodetic-answer = rw (inverse-passed .set-passed, rounded-on-plane p at (inverse-passed .inside-passed), inverse-passed .far-passed)
+
+  pub inverse-floats : Floats latitude longitude (inverseLatitude p E N .0) (inverseLongitude p E N) (pair .latitude) (pair .longitude)
+  unfolding inversePair
+  inverse-floats =
+      let range = position-in-range p E N (inverseLatitude p E N) (inverseLongitude p E N) geodetic-answer in
+      record {
+        first-size = range .0;
+        second-size = abs-between (inverseLongitude p E N) (<ℤ-≤ℤ (range .1)) (range .2);
+        first-is = sym (inverse-told .1);
+        second-is = sym (inverse-told .2);
+      }
+
+pub inverse-converted : InverseConverted
+inverse-converted p at pair e =
+    let passed = inverse-passed p at pair e in
+    sym e ∙ converted-inverse p at (passed .set-passed) (passed .finite-passed) (passed .inside-passed)
 
 pub inverse-finite : InverseFinite
-inverse-finite p at pair e =
-    rw (degrees-whole p at pair e .floats)
-    (float-finite latitude (degrees-whole p at pair e .φ .0) (latitude-size p at pair e), float-finite longitude (degrees-whole p at pair e .lon) (longitude-size p at pair e))
+inverse-finite p at pair e = each-finite (inverse-floats p at pair e)
 
 pub inverse-back : InverseBack
 unfolding latitudeMas longitudeMas
 inverse-back p at pair e =
-    let x = degrees-whole p at pair e in
-    x .whole
-    ∙ ap₂ (λ (φ lon : ℤ). Position (record { 0 = φ }) lon)
-    (sym (ap (λ (g : GeodeticPair). latitudeMas g .0) (x .floats) ∙ float-back latitude (x .φ .0) (latitude-size p at pair e)))
-    (sym (ap longitudeMas (x .floats) ∙ float-back longitude (x .lon) (longitude-size p at pair e)))
+    let floats = inverse-floats p at pair e in
+    geodetic-answer p at pair e
+    ∙ ap₂ (λ (φ lon : ℤ). Position (record { 0 = φ }) lon) (sym (first-back floats)) (sym (second-back floats))

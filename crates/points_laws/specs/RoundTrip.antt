@@ -1,4 +1,5 @@
--- Demand 3 over doubles, and demands 2 and 3 at an index of a list call. What `FloatRoundTrip` states is proved as `float-round-trip` in proofs/, and so the others.
+-- Demand 3 over doubles, and demands 2 and 3 at an index of a list call. What `FloatRoundTrip` states is proved as `float-round-trip` in proofs/,
+-- and so the others.
 use Prim.Native.Nat.{ℕ, _≤_, _<_}
 use mathlib.Core.Path.{_≡_}
 use mathlib.Core.List.{List}
@@ -12,23 +13,28 @@ use Rattle.azimuthal_forward.specs.Answer.{nearness}
 use Rattle.round_trip.specs.RoundTrip.{farthest-latitude, least-nearness, latitude-bound, gap-bound, CloseTo}
 use Rattle.points.specs.declared.pairs.GeodeticPair.{GeodeticPair}
 use Rattle.points.specs.declared.pairs.PlanePair.{PlanePair}
+use Rattle.points.specs.declared.pairs.Row.{Row}
 use Rattle.points.specs.declared.pairs.GeodeticPairAnswer.{GeodeticPairAnswer}
 use Rattle.points.specs.declared.pairs.PlanePairAnswer.the-variants.{Metres}
 use Rattle.points.specs.declared.pairs.GeodeticPairAnswer.the-variants.{Degrees}
 use Rattle.point_lists.specs.declared.ListAnswer.{ListAnswer}
-use Rattle.points.specs.Pairs.{latitudeMas, longitudeMas, planePair, geodeticPair, forwardDegrees, inverseMetres, plane-row, geodetic-row, degrees, metres, forwardRow, inverseRow}
-use Rattle.point_lists.specs.Lists.{listRefusal, ListCall}
-use Rattle.points_laws.specs.Theorems.{rowAt}
+use Rattle.points.specs.Pairs.{degrees, metres, latitudeMas, longitudeMas, planePair, geodeticPair}
+use Rattle.points.specs.Pairs.{plane-row, geodetic-row, forwardDegrees, inverseMetres}
+use Rattle.point_lists.specs.Lists.{forwardAt, inverseAt, listRefusal, ListCall}
+use Rattle.points_laws.specs.Theorems.{AtEachIndex}
 
 -- ---- demand 3
 
 -- The conditions on a pair of degrees, by its whole numbers: at most 89 degrees from the Equator, and a nearness G of at least 1,000,000,000.
 abbrev pub NearPair : Parameters → GeodeticPair → Type 0
-NearPair p at = (natAbs (latitudeMas at .0) ≤ farthest-latitude) × (pos least-nearness ≤ℤ nearness p (latitudeMas at) (longitudeMas at))
+NearPair p at =
+    (natAbs (latitudeMas at .0) ≤ farthest-latitude)
+    × (pos least-nearness ≤ℤ nearness p (latitudeMas at) (longitudeMas at))
 
 -- The whole numbers of `back` are within 200 mas of those of `at`, in latitude and in longitude gap.
 abbrev pub PairCloseTo : Parameters → GeodeticPair → GeodeticPair → Type 0
-PairCloseTo p at back = CloseTo latitude-bound gap-bound 1 p (latitudeMas at) (longitudeMas at) (Position (latitudeMas back) (longitudeMas back))
+PairCloseTo p at back =
+    CloseTo latitude-bound gap-bound 1 p (latitudeMas at) (longitudeMas at) (Position (latitudeMas back) (longitudeMas back))
 
 -- An accepted answer that is close.
 pub record ComesBack (p : Parameters) (at : GeodeticPair) (answer : GeodeticPairAnswer) : Type 0 where
@@ -46,46 +52,37 @@ FloatRoundTrip =
 
 -- ---- at an index of a list call
 
--- What is told of an answer decides it: a mark of 0 stands for an accepted answer alone.
-abbrev pub ForwardDecided : Type 0
-ForwardDecided =
-    (p : Parameters) (at : GeodeticPair) (first second : Float) →
-    plane-row (forwardDegrees p at) ≡ record { mark = 0; first = first; second = second } →
-    forwardDegrees p at ≡ Metres (metres first second)
+-- a row that has the false origin's floats, where the point is the exact centre
+abbrev pub CentreForwardAt : Parameters → Float → Float → Row → Type 0
+CentreForwardAt p x y written =
+    degrees x y ≡ geodeticPair (p .lat0 .0) (p .lon0) →
+    written ≡ plane-row (Metres (planePair (p .«false_easting») (p .«false_northing»)))
 
--- the exact centre, in a list call that is not refused
+-- and back
+abbrev pub CentreInverseAt : Parameters → Float → Float → Row → Type 0
+CentreInverseAt p x y written =
+    metres x y ≡ planePair (p .«false_easting») (p .«false_northing») →
+    written ≡ geodetic-row (Degrees (geodeticPair (p .lat0 .0) (p .lon0)))
+
 abbrev pub CentreForwardListed : Type 0
-CentreForwardListed =
-    (p : Parameters) (xs ys first first′ second second′ : List Float) (mark mark′ : List ℕ) (answer : ListAnswer) →
-    ListCall p (forwardRow p) xs ys first first′ second second′ mark mark′ answer →
-    listRefusal p xs ys first second mark ≡ 0 →
-    (k : ℕ) →
-    k < length xs →
-    degrees (getD xs k nan) (getD ys k nan) ≡ geodeticPair (p .lat0 .0) (p .lon0) →
-    rowAt k first′ second′ mark′ ≡ plane-row (Metres (planePair (p .«false_easting») (p .«false_northing»)))
+CentreForwardListed = AtEachIndex forwardAt CentreForwardAt
 
 abbrev pub CentreInverseListed : Type 0
-CentreInverseListed =
-    (p : Parameters) (xs ys first first′ second second′ : List Float) (mark mark′ : List ℕ) (answer : ListAnswer) →
-    ListCall p (inverseRow p) xs ys first first′ second second′ mark mark′ answer →
-    listRefusal p xs ys first second mark ≡ 0 →
-    (k : ℕ) →
-    k < length xs →
-    metres (getD xs k nan) (getD ys k nan) ≡ planePair (p .«false_easting») (p .«false_northing») →
-    rowAt k first′ second′ mark′ ≡ geodetic-row (Degrees (geodeticPair (p .lat0 .0) (p .lon0)))
+CentreInverseListed = AtEachIndex inverseAt CentreInverseAt
 
 -- Demand 3 at an index: a forward list call, then an inverse list call on the two lists that it wrote.
 -- A position that meets the conditions and has mark 0 has mark 0 again, and comes back close.
 abbrev pub ListRoundTrip : Type 0
 ListRoundTrip =
     (p : Parameters) (xs ys first first′ second second′ : List Float) (mark mark′ : List ℕ) (answer : ListAnswer) →
-    ListCall p (forwardRow p) xs ys first first′ second second′ mark mark′ answer →
+    ListCall p (forwardAt p) xs ys first first′ second second′ mark mark′ answer →
     listRefusal p xs ys first second mark ≡ 0 →
     (lat lat′ lon lon′ : List Float) (again again′ : List ℕ) (answer′ : ListAnswer) →
-    ListCall p (inverseRow p) first′ second′ lat lat′ lon lon′ again again′ answer′ →
+    ListCall p (inverseAt p) first′ second′ lat lat′ lon lon′ again again′ answer′ →
     listRefusal p first′ second′ lat lon again ≡ 0 →
     (k : ℕ) →
     k < length xs →
     getD mark′ k 0 ≡ 0 →
     NearPair p (degrees (getD xs k nan) (getD ys k nan)) →
-    (getD again′ k 0 ≡ 0) × PairCloseTo p (degrees (getD xs k nan) (getD ys k nan)) (degrees (getD lat′ k nan) (getD lon′ k nan))
+    (getD again′ k 0 ≡ 0)
+    × PairCloseTo p (degrees (getD xs k nan) (getD ys k nan)) (degrees (getD lat′ k nan) (getD lon′ k nan))

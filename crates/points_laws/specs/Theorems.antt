@@ -1,4 +1,5 @@
--- What holds of the single and the list calls, over the definitions that their contracts cite. What `ForwardFinite` states is proved as `forward-finite` in proofs/, and so the others.
+-- What holds of the single and the list calls, over the definitions that their contracts cite. What `ForwardFinite` states is proved as
+-- `forward-finite` in proofs/, and so the others.
 use Prim.Native.Nat.{ℕ, suc, _≤_, _<_}
 use mathlib.Core.Path.{_≡_}
 use mathlib.Core.Bool.{true, false}
@@ -6,6 +7,8 @@ use mathlib.Core.List.{List, []}
 use lib.IntN.{ℤ, pos, negℤ, natAbs}
 use lib.Ieee.{Float, nan, fin}
 use lib.ListN.{length, getD, replicate}
+use Rattle.units.specs.Units.{right-angle, half-turn, plane-limit}
+use Rattle.units.specs.Refusals.{bad-set, not-finite, out-of-limits, too-far, unequal-lists, long-lists}
 use Rattle.floats.specs.Limits.{isFinite}
 use Rattle.parameters.specs.declared.Parameters.{Parameters}
 use Rattle.azimuthal_forward.specs.declared.PlaneAnswer.the-variants.{Plane}
@@ -21,12 +24,13 @@ use Rattle.points.specs.declared.pairs.PlanePairAnswer.the-variants.{Metres, Re
 use Rattle.points.specs.declared.pairs.GeodeticPairAnswer.the-variants.{Degrees, Refused as NotFound}
 use Rattle.point_lists.specs.declared.ListAnswer.{ListAnswer}
 use Rattle.point_lists.specs.declared.ListAnswer.the-variants.{Count, Refused}
-use Rattle.points.specs.Pairs.{latitudeMas, longitudeMas, eastingCm, northingCm, planePair, geodeticPair, inMetres, inDegrees, forwardDegrees, inverseMetres, zeroFloat, plane-row, geodetic-row, degrees, metres, forwardRow, inverseRow}
-use Rattle.point_lists.specs.Lists.{listRefusal, zeros, ListCall}
+use Rattle.points.specs.Pairs.{degrees, metres, latitudeMas, longitudeMas, eastingCm, northingCm, planePair, geodeticPair, zeroFloat}
+use Rattle.points.specs.Pairs.{plane-row, geodetic-row, forwardDegrees, inverseMetres, inMetres, inDegrees}
+use Rattle.point_lists.specs.Lists.{forwardAt, inverseAt, listRefusal, zeros, ListCall}
 
 -- ---- accepted answers of single calls
 
--- "Each accepted answer equals the whole-unit call's answer converted"
+-- Each accepted answer is the whole-unit call's answer converted.
 abbrev pub ForwardConverted : Type 0
 ForwardConverted =
     (p : Parameters) (at : GeodeticPair) (pair : PlanePair) →
@@ -39,7 +43,7 @@ InverseConverted =
     inverseMetres p at ≡ Degrees pair →
     Degrees pair ≡ inDegrees (inverseOf p (eastingCm at) (northingCm at))
 
--- "and both its floats are finite"
+-- Demand 1: "It answers with finite coordinates or one of the six refusals".
 abbrev pub ForwardFinite : Type 0
 ForwardFinite =
     (p : Parameters) (at : GeodeticPair) (pair : PlanePair) →
@@ -73,8 +77,8 @@ ForwardWhole =
     (p : Parameters) →
     setRefusal p ≡ 0 →
     (φ lon : ℤ) →
-    natAbs φ ≤ 324_000_000 →
-    natAbs lon ≤ 648_000_000 →
+    natAbs φ ≤ right-angle →
+    natAbs lon ≤ half-turn →
     forwardDegrees p (geodeticPair φ lon) ≡ inMetres (forwardOf p (record { 0 = φ }) lon)
 
 abbrev pub InverseWhole : Type 0
@@ -82,8 +86,8 @@ InverseWhole =
     (p : Parameters) →
     setRefusal p ≡ 0 →
     (E N : ℤ) →
-    natAbs E ≤ 5_000_000_000 →
-    natAbs N ≤ 5_000_000_000 →
+    natAbs E ≤ plane-limit →
+    natAbs N ≤ plane-limit →
     inverseMetres p (planePair E N) ≡ inDegrees (inverseOf p E N)
 
 -- the centre's floats go to the false origin's floats, and back
@@ -105,24 +109,30 @@ CentreInverse =
 abbrev pub rowAt : ℕ → List Float → List Float → List ℕ → Row
 rowAt k first second mark = record { mark = getD mark k 0; first = getD first k nan; second = getD second k nan }
 
+-- What holds at each index of every call that is not refused and works out its points by `row`: of the set, the two floats put in there and the row
+-- written there.
+abbrev pub AtEachIndex : (Parameters → Float → Float → Row) → (Parameters → Float → Float → Row → Type 0) → Type 0
+AtEachIndex row Holds =
+    (p : Parameters) (xs ys first first′ second second′ : List Float) (mark mark′ : List ℕ) (answer : ListAnswer) →
+    ListCall p (row p) xs ys first first′ second second′ mark mark′ answer →
+    listRefusal p xs ys first second mark ≡ 0 →
+    (k : ℕ) →
+    k < length xs →
+    Holds p (getD xs k nan) (getD ys k nan) (rowAt k first′ second′ mark′)
+
+-- a row that is what the single call tells of the point
+abbrev pub ForwardToldAt : Parameters → Float → Float → Row → Type 0
+ForwardToldAt p x y written = written ≡ plane-row (forwardDegrees p (degrees x y))
+
+abbrev pub InverseToldAt : Parameters → Float → Float → Row → Type 0
+InverseToldAt p x y written = written ≡ geodetic-row (inverseMetres p (metres x y))
+
 -- the list call equals the single call at every index
 abbrev pub ForwardListed : Type 0
-ForwardListed =
-    (p : Parameters) (xs ys first first′ second second′ : List Float) (mark mark′ : List ℕ) (answer : ListAnswer) →
-    ListCall p (forwardRow p) xs ys first first′ second second′ mark mark′ answer →
-    listRefusal p xs ys first second mark ≡ 0 →
-    (k : ℕ) →
-    k < length xs →
-    rowAt k first′ second′ mark′ ≡ plane-row (forwardDegrees p (degrees (getD xs k nan) (getD ys k nan)))
+ForwardListed = AtEachIndex forwardAt ForwardToldAt
 
 abbrev pub InverseListed : Type 0
-InverseListed =
-    (p : Parameters) (xs ys first first′ second second′ : List Float) (mark mark′ : List ℕ) (answer : ListAnswer) →
-    ListCall p (inverseRow p) xs ys first first′ second second′ mark mark′ answer →
-    listRefusal p xs ys first second mark ≡ 0 →
-    (k : ℕ) →
-    k < length xs →
-    rowAt k first′ second′ mark′ ≡ geodetic-row (inverseMetres p (metres (getD xs k nan) (getD ys k nan)))
+InverseListed = AtEachIndex inverseAt InverseToldAt
 
 -- such a call answers the count of the marks that are 0, and its lists keep their length
 abbrev pub ListCounted : Type 0
@@ -138,7 +148,8 @@ ListCounted =
 -- a call refused by 5, 6 or 1 leaves every lent element as it was and returns the number
 abbrev pub ListRefused : Type 0
 ListRefused =
-    (p : Parameters) (row : Float → Float → Row) (xs ys first first′ second second′ : List Float) (mark mark′ : List ℕ) (answer : ListAnswer) (n : ℕ) →
+    (p : Parameters) (row : Float → Float → Row) (xs ys first first′ second second′ : List Float) (mark mark′ : List ℕ) →
+    (answer : ListAnswer) (n : ℕ) →
     ListCall p row xs ys first first′ second second′ mark mark′ answer →
     listRefusal p xs ys first second mark ≡ suc n →
     (answer ≡ Refused (suc n)) × (first′ ≡ first) × (second′ ≡ second) × (mark′ ≡ mark)
@@ -152,32 +163,33 @@ past-pole = fin false 91 (pos 0)
 abbrev pub past-plane : Float
 past-plane = fin false 50_000_001 (pos 0)
 
--- "(91, NaN) is 2"; the point opposite to the centre is refused 4, and what is told of it is its number
+-- 91 and NaN are refused 2, as "both coordinates are tested for 2 before either for 3"; the point opposite to the centre is refused 4, and what is
+-- told of it is its number
 abbrev pub ForwardWitnesses : Type 0
 ForwardWitnesses =
-    (forwardDegrees sizeless (degrees past-pole nan) ≡ PlaneRefused 1)
-    × (forwardDegrees etrsLaea (degrees past-pole nan) ≡ PlaneRefused 2)
-    × (forwardDegrees etrsLaea (degrees past-pole zeroFloat) ≡ PlaneRefused 3)
-    × (plane-row (forwardDegrees etrsLaea (geodeticPair (negℤ (pos 187_200_000)) (negℤ (pos 612_000_000)))) .mark ≡ 4)
+    (forwardDegrees sizeless (degrees past-pole nan) ≡ PlaneRefused bad-set)
+    × (forwardDegrees etrsLaea (degrees past-pole nan) ≡ PlaneRefused not-finite)
+    × (forwardDegrees etrsLaea (degrees past-pole zeroFloat) ≡ PlaneRefused out-of-limits)
+    × (plane-row (forwardDegrees etrsLaea (geodeticPair (negℤ (pos 187_200_000)) (negℤ (pos 612_000_000)))) .mark ≡ too-far)
 
 abbrev pub InverseWitnesses : Type 0
 InverseWitnesses =
-    (inverseMetres sizeless (metres past-plane nan) ≡ NotFound 1)
-    × (inverseMetres etrsLaea (metres past-plane nan) ≡ NotFound 2)
-    × (inverseMetres etrsLaea (metres past-plane zeroFloat) ≡ NotFound 3)
-    × (geodetic-row (inverseMetres etrsLaea (planePair (pos 5_000_000_000) (pos 0))) .mark ≡ 4)
+    (inverseMetres sizeless (metres past-plane nan) ≡ NotFound bad-set)
+    × (inverseMetres etrsLaea (metres past-plane nan) ≡ NotFound not-finite)
+    × (inverseMetres etrsLaea (metres past-plane zeroFloat) ≡ NotFound out-of-limits)
+    × (geodetic-row (inverseMetres etrsLaea (planePair (pos 5_000_000_000) (pos 0))) .mark ≡ too-far)
 
 -- lists of 4,097
 abbrev pub long : List Float
-long = replicate 4097 zeroFloat
+long = replicate 4_097 zeroFloat
 
 abbrev pub long-marks : List ℕ
-long-marks = replicate 4097 0
+long-marks = replicate 4_097 0
 
--- 5 before 6, 6 before 1, and "lists of length 0 with a bad set are 1"
+-- 5 before 6, 6 before 1, and empty lists with a set that is refused are refused 1
 abbrev pub ListWitnesses : Type 0
 ListWitnesses =
-    (listRefusal sizeless long [] long long long-marks ≡ 5)
-    × (listRefusal sizeless long long long long long-marks ≡ 6)
-    × (listRefusal sizeless [] [] [] [] [] ≡ 1)
+    (listRefusal sizeless long [] long long long-marks ≡ unequal-lists)
+    × (listRefusal sizeless long long long long long-marks ≡ long-lists)
+    × (listRefusal sizeless [] [] [] [] [] ≡ bad-set)
     × (listRefusal etrsLaea [] [] [] [] [] ≡ 0)

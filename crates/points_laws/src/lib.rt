@@ -1,1 +1,1 @@
-// No code: what holds of the single and the list calls (specs/Theorems.antt), over the definitions that their contracts cite.
+// No code: what holds of the single and the list calls (specs/), over the definitions that their contracts cite.
