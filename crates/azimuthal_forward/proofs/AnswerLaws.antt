@@ -9,7 +9,8 @@ use Rattle.parameters.specs.declared.Parameters.{Parameters}
 use Rattle.parameters.specs.ParameterSet.{setRefusal}
 use Rattle.azimuthal_forward.specs.declared.PlaneAnswer.the-variants.{Plane, Refused}
 use Rattle.azimuthal_forward.specs.Steps.{near-enough}
-use Rattle.azimuthal_forward.specs.Answer.{on-globe, nearness, forwardFar, forwardRefusal, eastingOf, northingOf, planeAnswer, plane-told, forwardOf, forwardTold}
+use Rattle.azimuthal_forward.specs.Answer.{on-globe, nearness, forwardFar, forwardRefusal, eastingOf, northingOf, planeAnswer, plane-told}
+use Rattle.azimuthal_forward.specs.Answer.{forwardOf, forwardTold}
 
 pub plane-tells : (n : ℕ) (E N : ℤ) → plane-told (planeAnswer n E N) ≡ told n E N
 plane-tells zero E N = refl

@@ -13,7 +13,8 @@ use Rattle.constants.specs.Derived.{constantsOf}
 use Rattle.azimuthal_forward.specs.Steps.{near-enough}
 use Rattle.azimuthal_inverse.specs.declared.GeodeticAnswer.the-variants.{Position, Refused}
 use Rattle.azimuthal_inverse.specs.Steps.{at-origin, on-map, K, G, found}
-use Rattle.azimuthal_inverse.specs.Answer.{geodeticAnswer, positionOf, farFrom, latitudeFrom, longitudeFrom, answerFrom, inverseFar, inverseRefusal, inverseLatitude, inverseLongitude, geodetic-told, inverseOf, inverseTold}
+use Rattle.azimuthal_inverse.specs.Answer.{geodeticAnswer, positionOf, farFrom, latitudeFrom, longitudeFrom, answerFrom, inverseFar}
+use Rattle.azimuthal_inverse.specs.Answer.{inverseRefusal, inverseLatitude, inverseLongitude, geodetic-told, inverseOf, inverseTold}
 
 pub geodetic-tells : (n : ℕ) (φ : Geodetic) (lon : ℤ) → geodetic-told (geodeticAnswer n φ lon) ≡ told n (φ .0) lon
 geodetic-tells zero φ lon = refl

@@ -32,7 +32,8 @@ module _ {A : Type 0} where
       ap (λ (t : List A). x ∷ t) (filled-suc i new old d f (le-of-suc-le-suc l))
 
   -- the store of one more
-  pub filled-more : (i : ℕ) (new old now : List A) (d v : A) → length new ≡ length old → i < length old → now ≡ filled i new old → v ≡ getD new i d → set now i v ≡ filled (i + 1) new old
+  pub filled-more : (i : ℕ) (new old now : List A) (d v : A) → length new ≡ length old → i < length old → now ≡ filled i new old → v ≡ getD new i d →
+      set now i v ≡ filled (i + 1) new old
   filled-more i new old now d v e l q w =
       ap (λ (t : List A). set t i v) q
       ∙ ap (set (filled i new old) i) w
@@ -54,7 +55,8 @@ module _ {A : Type 0} (column : Row → A) (row : Float → Float → Row) where
   column-length (x ∷ xs) [] e = let z : ⊥ = omega (arith, e) in absurd z
   column-length (x ∷ xs) (y ∷ ys) e = let f : length ys ≡ length xs = omega (arith, e) in ap suc (column-length xs ys f)
 
-  pub column-at : (xs ys : List Float) (i : ℕ) (d : A) (x₀ y₀ : Float) → length ys ≡ length xs → i < length xs → getD (map column (rows row xs ys)) i d ≡ column (row (getD xs i x₀) (getD ys i y₀))
+  pub column-at : (xs ys : List Float) (i : ℕ) (d : A) (x₀ y₀ : Float) → length ys ≡ length xs → i < length xs →
+      getD (map column (rows row xs ys)) i d ≡ column (row (getD xs i x₀) (getD ys i y₀))
   column-at [] ys i d x₀ y₀ e l = absurd (not-suc-le-zero l)
   column-at (x ∷ xs) [] i d x₀ y₀ e l = let z : ⊥ = omega (arith, e) in absurd z
   column-at (x ∷ xs) (y ∷ ys) zero d x₀ y₀ e l = refl
@@ -67,7 +69,8 @@ pub record Filling {A : Type 0} (column : Row → A) (row : Float → Float → 
   pub room : length old ≡ length xs
   pub so-far : now ≡ filled i (map column (rows row xs ys)) old
 
-module _ {A : Type 0} {column : Row → A} {row : Float → Float → Row} {xs ys : List Float} {old now : List A} {i : ℕ} (f : Filling column row xs ys old now i) where
+module _ {A : Type 0} {column : Row → A} {row : Float → Float → Row} {xs ys : List Float} {old now : List A} {i : ℕ}
+    (f : Filling column row xs ys old now i) where
   same-room : length (map column (rows row xs ys)) ≡ length old
   same-room = column-length column row xs ys (f .equal) ∙ sym (f .room)
 
@@ -77,7 +80,8 @@ module _ {A : Type 0} {column : Row → A} {row : Float → Float → Row} {xs y
   pub room-left : i < length xs → i < length now
   room-left l = omega (arith, kept-length, f .room)
 
-  pub stored : (d : A) (r : Row) → i < length xs → r ≡ row (getD xs i nan) (getD ys i nan) → set now i (column r) ≡ filled (i + 1) (map column (rows row xs ys)) old
+  pub stored : (d : A) (r : Row) → i < length xs → r ≡ row (getD xs i nan) (getD ys i nan) →
+      set now i (column r) ≡ filled (i + 1) (map column (rows row xs ys)) old
   stored d r l e =
       let inside : i < length old = omega (arith, f .room) in
       filled-more i (map column (rows row xs ys)) old now d (column r) same-room inside (f .so-far)

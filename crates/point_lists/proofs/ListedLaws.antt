@@ -32,11 +32,13 @@ first-of (suc n) some lengths set e = rw (sym e)
 
 -- a refusal by the lengths is the call's; without one the set's is
 module _ (p : Parameters) (xs ys first second : List Float) (mark : List ℕ) (n : ℕ) where
-  pub refused-by-lengths : (n ≡ 0 → ⊥) → n ≡ lengthRefusal (length xs) (length ys) (length first) (length second) (length mark) → n ≡ listRefusal p xs ys first second mark
+  pub refused-by-lengths : (n ≡ 0 → ⊥) → n ≡ lengthRefusal (length xs) (length ys) (length first) (length second) (length mark) →
+      n ≡ listRefusal p xs ys first second mark
   unfolding listRefusal
   refused-by-lengths some e = first-of n some (lengthRefusal (length xs) (length ys) (length first) (length second) (length mark)) (setRefusal p) e
 
-  pub refused-by-set : lengthRefusal (length xs) (length ys) (length first) (length second) (length mark) ≡ 0 → n ≡ setRefusal p → n ≡ listRefusal p xs ys first second mark
+  pub refused-by-set : lengthRefusal (length xs) (length ys) (length first) (length second) (length mark) ≡ 0 → n ≡ setRefusal p →
+      n ≡ listRefusal p xs ys first second mark
   unfolding listRefusal
   refused-by-set none e = rw none e
 
@@ -48,6 +50,7 @@ module _ {refusal : ℕ} {points : List Row} {first second : List Float} {mark :
       rw (sym e) (record { first-are = refl; second-are = refl; marks-are = refl; answer-is = refl; answer-tells = refl })
 
   -- a call without refusal
-  pub listed-count : {first′ second′ : List Float} {mark′ : List ℕ} (count : ℕ) → 0 ≡ refusal → first′ ≡ firstValues points → second′ ≡ secondValues points → mark′ ≡ marks points → count ≡ zeros mark′ → Listed refusal points first first′ second second′ mark mark′ (Count count)
+  pub listed-count : {first′ second′ : List Float} {mark′ : List ℕ} (count : ℕ) → 0 ≡ refusal → first′ ≡ firstValues points →
+      second′ ≡ secondValues points → mark′ ≡ marks points → count ≡ zeros mark′ → Listed refusal points first first′ second second′ mark mark′ (Count count)
   listed-count count none f s m c =
       rw (sym none) (record { first-are = f; second-are = s; marks-are = m; answer-is = ap Count c; answer-tells = rw c })

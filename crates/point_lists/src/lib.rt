@@ -81,7 +81,8 @@ fn fill(
     marks: &mut [u8],
 )
     requires { ⌜ Prepared (now t) p k ⌝ }
-    requires { ⌜ (length (now ys) ≡ length (now xs)) × (length (now leading) ≡ length (now xs)) × (length (now trailing) ≡ length (now xs)) × (length (now marks) ≡ length (now xs)) ⌝ }
+    requires { ⌜ (length (now ys) ≡ length (now xs)) × (length (now leading) ≡ length (now xs))
+        × (length (now trailing) ≡ length (now xs)) × (length (now marks) ≡ length (now xs)) ⌝ }
     ensures { λ _. ⌜ now (leading .exit) ≡ firstValues (rows (rowOf forward p) (now (xs .entry)) (now (ys .entry))) ⌝ }
     ensures { λ _. ⌜ now (trailing .exit) ≡ secondValues (rows (rowOf forward p) (now (xs .entry)) (now (ys .entry))) ⌝ }
     ensures { λ _. ⌜ now (marks .exit) ≡ marksOf (rows (rowOf forward p) (now (xs .entry)) (now (ys .entry))) ⌝ }
@@ -122,7 +123,8 @@ fn list(
     trailing: &mut [f64],
     marks: &mut [u8],
 ) -> ListAnswer
-    ensures { λ r. ⌜ ListCall p (rowOf forward p) (now (xs .entry)) (now (ys .entry)) (now (leading .entry)) (now (leading .exit)) (now (trailing .entry)) (now (trailing .exit)) (now (marks .entry)) (now (marks .exit)) r ⌝ }
+    ensures { λ r. ⌜ ListCall p (rowOf forward p) (now (xs .entry)) (now (ys .entry))
+        (now (leading .entry)) (now (leading .exit)) (now (trailing .entry)) (now (trailing .exit)) (now (marks .entry)) (now (marks .exit)) r ⌝ }
 {
     let by_lengths = length_refusal(
         xs.len(),
@@ -162,7 +164,8 @@ pub fn forward_list(
     trailing: &mut [f64],
     marks: &mut [u8],
 ) -> ListAnswer
-    ensures { λ r. ⌜ ListCall p (forwardAt p) (now (latitudes .entry)) (now (longitudes .entry)) (now (leading .entry)) (now (leading .exit)) (now (trailing .entry)) (now (trailing .exit)) (now (marks .entry)) (now (marks .exit)) r ⌝ }
+    ensures { λ r. ⌜ ListCall p (forwardAt p) (now (latitudes .entry)) (now (longitudes .entry))
+        (now (leading .entry)) (now (leading .exit)) (now (trailing .entry)) (now (trailing .exit)) (now (marks .entry)) (now (marks .exit)) r ⌝ }
 {
     list(p, true, latitudes, longitudes, leading, trailing, marks)
 }
@@ -176,7 +179,8 @@ pub fn inverse_list(
     longitudes: &mut [f64],
     marks: &mut [u8],
 ) -> ListAnswer
-    ensures { λ r. ⌜ ListCall p (inverseAt p) (now (leading .entry)) (now (trailing .entry)) (now (latitudes .entry)) (now (latitudes .exit)) (now (longitudes .entry)) (now (longitudes .exit)) (now (marks .entry)) (now (marks .exit)) r ⌝ }
+    ensures { λ r. ⌜ ListCall p (inverseAt p) (now (leading .entry)) (now (trailing .entry))
+        (now (latitudes .entry)) (now (latitudes .exit)) (now (longitudes .entry)) (now (longitudes .exit)) (now (marks .entry)) (now (marks .exit)) r ⌝ }
 {
     list(p, false, leading, trailing, latitudes, longitudes, marks)
 }

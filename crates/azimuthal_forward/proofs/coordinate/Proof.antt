@@ -1,4 +1,4 @@
--- `forward::coordinate` meets its contract: the product is within 64 bits, and so is its quotient. Assumes nothing.
+-- `coordinate` meets its contract: the product is within 64 bits, and so is its quotient. Assumes nothing.
 use mathlib.Core.Path.{_≡_, ap, _∙_}
 use Prim.Native.Nat.{ℕ, _+_, _/_, _≤_, _<_, _^_}
 use native.Mathlib.Omega.{arith}

@@ -1,4 +1,4 @@
--- `forward::direction_of` meets its contract: each call gives the paper's next quantity, and every one is at most 2 units in size. Assumes nothing.
+-- `direction_of` meets its contract: each call gives the paper's next quantity, and every one is at most 2 units in size. Assumes nothing.
 use borrow.Author.Needs.{needs}
 use mathlib.Core.Path.{_≡_, ap, ap₂, _∙_}
 use Prim.Native.Nat.{ℕ, _≤_}

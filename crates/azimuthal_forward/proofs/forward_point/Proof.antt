@@ -1,4 +1,4 @@
--- `forward::forward_point` meets its contract: each return follows from the tests that led there. Assumes nothing.
+-- `forward_point` meets its contract: each return follows from the tests that led there. Assumes nothing.
 use borrow.Author.Needs.{needs}
 use borrow.Author.Tests.{not-true, not-false}
 use mathlib.Core.Path.{_≡_, sym, ap, ap₂, _∙_}

@@ -1,4 +1,4 @@
--- `forward::is_on_globe` meets its contract. Assumes nothing.
+-- `is_on_globe` meets its contract: the latitude and the longitude are tested against their limits, as they were passed. Assumes nothing.
 use borrow.Author.Needs.{needs}
 use mathlib.Core.Path.{ap₂, _∙_}
 use mathlib.Core.Bool.{_&&_}

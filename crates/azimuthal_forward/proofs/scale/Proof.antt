@@ -1,4 +1,5 @@
--- `forward::scale` meets its contract. Assumes nothing.
+-- `scale` meets its contract: G is not negative and small, so its product is within 64 bits and the root is that of the definition.
+-- Assumes nothing.
 use borrow.Author.Needs.{needs}
 use mathlib.Core.Path.{ap, _∙_}
 use Rattle.proof_kit.proofs.Range.{code, fits, read-abs, as-sign, unsigned}

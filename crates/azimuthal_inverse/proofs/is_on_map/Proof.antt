@@ -1,4 +1,4 @@
--- `inverse::is_on_map` meets its contract: twice a radius is within 64 bits. Assumes nothing.
+-- `is_on_map` meets its contract: twice a radius is within 64 bits. Assumes nothing.
 use borrow.Author.Needs.{needs}
 use mathlib.Core.Path.{_≡_, ap, ap₂, _∙_}
 use mathlib.Core.Bool.{Bool, _&&_}

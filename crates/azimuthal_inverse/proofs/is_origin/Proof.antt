@@ -1,4 +1,4 @@
--- `inverse::is_origin` meets its contract. Assumes nothing.
+-- `is_origin` meets its contract: a number from 0 to 0 is 0. Assumes nothing.
 use borrow.Author.Needs.{needs}
 use mathlib.Core.Path.{ap₂, _∙_}
 use mathlib.Core.Bool.{_&&_}

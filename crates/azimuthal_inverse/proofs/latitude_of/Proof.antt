@@ -1,4 +1,4 @@
--- `inverse::latitude_of` meets its contract: the coordinates are small enough that their squares and the sum of two of them are
+-- `latitude_of` meets its contract: the coordinates are small enough that their squares and the sum of two of them are
 -- within 64 bits, and an angle is at most 90°. Assumes nothing.
 use borrow.Author.Needs.{needs}
 use mathlib.Core.Path.{_≡_, ap, ap₂, _∙_}

@@ -1,4 +1,4 @@
--- `inverse::longitude_of` meets its contract: the test on f picks the case, and an angle is at most 90°. Assumes nothing.
+-- `longitude_of` meets its contract: the test on f picks the case, and an angle is at most 90°. Assumes nothing.
 use borrow.Author.Needs.{needs}
 use mathlib.Core.Path.{_≡_, sym, ap, ap₂, _∙_}
 use Prim.Native.Nat.{ℕ, _-_, _≤_}

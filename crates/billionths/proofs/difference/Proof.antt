@@ -1,4 +1,4 @@
--- `billionths::difference` meets its contract: the products are within 64 bits. Assumes nothing.
+-- `difference` meets its contract: the products are within 64 bits. Assumes nothing.
 use mathlib.Core.Path.{ap, _∙_}
 use lib.Dec.{lit<}
 use lib.IntN.{ℤ}

@@ -1,4 +1,4 @@
--- `billionths::quotient` meets its contract: x·U is within 64 bits, with room for the rounding, and the divisor is cast as it is. Assumes nothing.
+-- `quotient` meets its contract: x·U is within 64 bits, with room for the rounding, and the divisor is cast as it is. Assumes nothing.
 use mathlib.Core.Path.{ap₂, _∙_}
 use Prim.Native.Nat.{_*_, _≤_}
 use native.Mathlib.Nat.{le-refl}

@@ -1,4 +1,4 @@
--- `billionths::sum` meets its contract: the products are within 64 bits. Assumes nothing.
+-- `sum` meets its contract: the products are within 64 bits. Assumes nothing.
 use mathlib.Core.Path.{ap, _∙_}
 use lib.Dec.{lit<}
 use lib.IntN.{ℤ}

@@ -1,4 +1,4 @@
--- `billionths::unit_root` meets its contract: x·U is not negative and within 64 bits, and its root is smaller still. Assumes nothing.
+-- `unit_root` meets its contract: x·U is not negative and within 64 bits, and its root is smaller still. Assumes nothing.
 use borrow.Author.Needs.{needs}
 use mathlib.Core.Path.{_≡_, ap, _∙_}
 use native.Mathlib.Omega.{arith}

@@ -1,4 +1,4 @@
--- `constants::constants_of` meets its contract: each call gives the paper's number, and for an accepted set each is so small that
+-- `constants_of` meets its contract: each call gives the paper's number, and for an accepted set each is so small that
 -- the next call may take it, and D is above 0. Assumes nothing.
 use mathlib.Core.Path.{_≡_, ap, _∙_}
 use Prim.Native.Nat.{_≤_}

@@ -1,4 +1,4 @@
--- `constants::in_mas` meets its contract: it is the product that the paper names. Assumes nothing.
+-- `in_mas` meets its contract: it is the product that the paper names. Assumes nothing.
 use mathlib.Core.Path.{ap, _∙_}
 use lib.Dec.{lit≤}
 use lib.IntN.{ℤ}

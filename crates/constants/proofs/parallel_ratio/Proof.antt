@@ -1,4 +1,4 @@
--- `constants::parallel_ratio` meets its contract: V is near U, since e2 is small, and so is its root, by which m divides. Assumes nothing.
+-- `parallel_ratio` meets its contract: V is near U, since e2 is small, and so is its root, by which m divides. Assumes nothing.
 use borrow.Author.Needs.{needs}
 use mathlib.Core.Path.{_≡_, ap, _∙_}
 use Prim.Native.Nat.{zero-le}

@@ -1,4 +1,4 @@
--- `constants::radius_ratio` meets its contract: W is near U, since the three terms taken from U are small. Assumes nothing.
+-- `radius_ratio` meets its contract: W is near U, since the three terms taken from U are small. Assumes nothing.
 use mathlib.Core.Path.{_≡_}
 use Prim.Native.Nat.{zero-le}
 use native.Mathlib.Omega.{arith}

@@ -1,4 +1,4 @@
--- `constants::series` meets its contract: e4, e6 and each term are so small that every sum and product is within 64 bits. Assumes nothing.
+-- `series` meets its contract: e4, e6 and each term are so small that every sum and product is within 64 bits. Assumes nothing.
 use mathlib.Core.Path.{_≡_, ap, ap₂, _∙_}
 use Prim.Native.Nat.{_≤_}
 use native.Mathlib.Omega.{arith}

@@ -1,4 +1,4 @@
--- `parameters::is_lon0` meets its contract. Assumes nothing.
+-- `is_lon0` meets its contract: lon0 has to be above the first limit and at most the second. Assumes nothing.
 use mathlib.Core.Path.{_≡_, sym, ap, _∙_}
 use mathlib.Core.Bool.{Bool, _&&_}
 use lib.IntN.{ℤ, pos, negℤ}

@@ -37,7 +37,8 @@ loop-holds c = (omega arith, refl, refl, refl)
 leading-so-far :
     (c : tie.At-loop Inv-loop μ-loop) →
     let start = c .before .before .before .before .before .before in
-    Filling first-of (rowOf (start .args .forward) (start .args .p)) (start .args .xs .now) (start .args .ys .now) (start .args .leading .now) (c .loop .leading) (c .loop .i)
+    Filling first-of (rowOf (start .args .forward) (start .args .p)) (start .args .xs .now) (start .args .ys .now) (start .args .leading .now)
+    (c .loop .leading) (c .loop .i)
 leading-so-far c =
     let start = c .before .before .before .before .before .before in
     record { equal = start .pre .1 .0; room = start .pre .1 .1; so-far = c .loop .inv .1 }
@@ -45,7 +46,8 @@ leading-so-far c =
 trailing-so-far :
     (c : tie.At-loop Inv-loop μ-loop) →
     let start = c .before .before .before .before .before .before in
-    Filling second-of (rowOf (start .args .forward) (start .args .p)) (start .args .xs .now) (start .args .ys .now) (start .args .trailing .now) (c .loop .trailing) (c .loop .i)
+    Filling second-of (rowOf (start .args .forward) (start .args .p)) (start .args .xs .now) (start .args .ys .now) (start .args .trailing .now)
+    (c .loop .trailing) (c .loop .i)
 trailing-so-far c =
     let start = c .before .before .before .before .before .before in
     record { equal = start .pre .1 .0; room = start .pre .1 .2; so-far = c .loop .inv .2 }
@@ -53,7 +55,8 @@ trailing-so-far c =
 marks-so-far :
     (c : tie.At-loop Inv-loop μ-loop) →
     let start = c .before .before .before .before .before .before in
-    Filling mark-of (rowOf (start .args .forward) (start .args .p)) (start .args .xs .now) (start .args .ys .now) (start .args .marks .now) (c .loop .marks) (c .loop .i)
+    Filling mark-of (rowOf (start .args .forward) (start .args .p)) (start .args .xs .now) (start .args .ys .now) (start .args .marks .now)
+    (c .loop .marks) (c .loop .i)
 marks-so-far c =
     let start = c .before .before .before .before .before .before in
     record { equal = start .pre .1 .0; room = start .pre .1 .3; so-far = c .loop .inv .3 }

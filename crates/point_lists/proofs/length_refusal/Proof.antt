@@ -19,19 +19,36 @@ returns-3 c = rw (eq-eqb _ _ (c .before .before .if1 .left), eq-eqb _ _ (c .befo
 returns-4 : tie.Need-returns-4
 unfolding lengthRefusal
 returns-4 c =
-    rw (eq-eqb _ _ (c .before .before .before .if1 .left), eq-eqb _ _ (c .before .before .if2 .left), eq-eqb _ _ (c .before .if3 .left), ne-eqb _ _ (c .if4 .taken))
+    rw (
+      eq-eqb _ _ (c .before .before .before .if1 .left),
+      eq-eqb _ _ (c .before .before .if2 .left),
+      eq-eqb _ _ (c .before .if3 .left),
+      ne-eqb _ _ (c .if4 .taken),
+    )
 
 returns-5 : tie.Need-returns-5
 unfolding lengthRefusal
 returns-5 c =
     let equal = c .before in
-    rw (eq-eqb _ _ (equal .before .before .before .if1 .left), eq-eqb _ _ (equal .before .before .if2 .left), eq-eqb _ _ (equal .before .if3 .left), eq-eqb _ _ (equal .if4 .left), lt-leb _ _ (c .if5 .taken))
+    rw (
+      eq-eqb _ _ (equal .before .before .before .if1 .left),
+      eq-eqb _ _ (equal .before .before .if2 .left),
+      eq-eqb _ _ (equal .before .if3 .left),
+      eq-eqb _ _ (equal .if4 .left),
+      lt-leb _ _ (c .if5 .taken),
+    )
 
 returns-6 : tie.Need-returns-6
 unfolding lengthRefusal
 returns-6 c =
     let equal = c .before in
-    rw (eq-eqb _ _ (equal .before .before .before .if1 .left), eq-eqb _ _ (equal .before .before .if2 .left), eq-eqb _ _ (equal .before .if3 .left), eq-eqb _ _ (equal .if4 .left), le-leb _ _ (c .if5 .left))
+    rw (
+      eq-eqb _ _ (equal .before .before .before .if1 .left),
+      eq-eqb _ _ (equal .before .before .if2 .left),
+      eq-eqb _ _ (equal .before .if3 .left),
+      eq-eqb _ _ (equal .if4 .left),
+      le-leb _ _ (c .if5 .left),
+    )
 
 pub length-refusal-spec : {M : Type 1} → statement M
 length-refusal-spec = tie.close (tie.spec returns returns-2 returns-3 returns-4 returns-5 returns-6)

@@ -16,7 +16,9 @@ returns : tie.Need-returns
 returns c =
     let start = c .before .before .before .before .before .before .before in
     let refusal = c .before .length-refusal in
-    listed-refused (refusal .result) (c .if1 .taken) (refused-by-lengths (start .args .p) (now (start .args .xs)) (now (start .args .ys)) (now (start .args .leading)) (now (start .args .trailing)) (now (start .args .marks)) (refusal .result) (c .if1 .taken) (refusal .ensures))
+    listed-refused (refusal .result) (c .if1 .taken)
+    (refused-by-lengths (start .args .p) (now (start .args .xs)) (now (start .args .ys)) (now (start .args .leading)) (now (start .args .trailing))
+    (now (start .args .marks)) (refusal .result) (c .if1 .taken) (refusal .ensures))
 
 -- past the first test the lists' lengths are accepted, past the second the set
 lengths-accepted :
@@ -35,7 +37,9 @@ returns-2 : tie.Need-returns-2
 returns-2 c =
     let start = c .before .before .before .before .before .before .before .before .before in
     let refusal = c .before .refusal in
-    listed-refused (refusal .result) (c .if2 .taken) (refused-by-set (start .args .p) (now (start .args .xs)) (now (start .args .ys)) (now (start .args .leading)) (now (start .args .trailing)) (now (start .args .marks)) (refusal .result) (lengths-accepted (c .before .before)) (refusal .ensures))
+    listed-refused (refusal .result) (c .if2 .taken)
+    (refused-by-set (start .args .p) (now (start .args .xs)) (now (start .args .ys)) (now (start .args .leading)) (now (start .args .trailing))
+    (now (start .args .marks)) (refusal .result) (lengths-accepted (c .before .before)) (refusal .ensures))
 
 table-requires : tie.Need-table-requires
 table-requires c κs = search needs
@@ -47,8 +51,10 @@ fill-requires : tie.Need-fill-requires
 fill-requires c κs =
     let both-accepted = c .before .before .before .before .before .before .before in
     let table = c .before .before .before .before .before .before in
-    let constants = c .before .before .before in
-    (record { table = table .table .ensures; accepted = set-accepted both-accepted; constants = constants .constants-of .ensures }, equal-lengths _ _ _ _ _ (lengths-accepted (both-accepted .before .before)))
+    let constants = c .before .before .before in (
+      record { table = table .table .ensures; accepted = set-accepted both-accepted; constants = constants .constants-of .ensures },
+      equal-lengths _ _ _ _ _ (lengths-accepted (both-accepted .before .before)),
+    )
 
 count-zeros-requires : tie.Need-count-zeros-requires
 count-zeros-requires c κs = search needs
@@ -68,7 +74,8 @@ returns-3 c =
     let both-accepted = filled .before .before .before .before .before .before .before .before in
     let start = both-accepted .before .before .before .before .before .before .before .before .before in
     listed-count (c .count-zeros .result)
-    (refused-by-set (start .args .p) (now (start .args .xs)) (now (start .args .ys)) (now (start .args .leading)) (now (start .args .trailing)) (now (start .args .marks)) 0 (lengths-accepted (both-accepted .before .before)) (sym (set-accepted both-accepted)))
+    (refused-by-set (start .args .p) (now (start .args .xs)) (now (start .args .ys)) (now (start .args .leading)) (now (start .args .trailing))
+    (now (start .args .marks)) 0 (lengths-accepted (both-accepted .before .before)) (sym (set-accepted both-accepted)))
     (filled .fill .ensures .0) (filled .fill .ensures .1 .0) (filled .fill .ensures .1 .1) (c .count-zeros .ensures)
 
 pub list-spec : {M : Type 1} → statement M

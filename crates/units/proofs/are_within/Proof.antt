@@ -1,4 +1,4 @@
--- `parameters::are_within` meets its contract: each call is one of the two tests. Assumes nothing.
+-- `are_within` meets its contract: each call is one of the two tests, and the second is asked where the first passes. Assumes nothing.
 use borrow.Author.Needs.{needs}
 use borrow.Author.Tests.{not-true, not-false}
 use mathlib.Core.Path.{_≡_, sym, ap, _∙_}

@@ -1,4 +1,4 @@
--- `inverse::is_on_plane` meets its contract. Assumes nothing.
+-- `is_on_plane` meets its contract: both coordinates are tested against the plane limits. Assumes nothing.
 use borrow.Author.Needs.{needs}
 use mathlib.Core.Path.{ap₂, _∙_}
 use mathlib.Core.Bool.{_&&_}

@@ -1,4 +1,4 @@
--- `parameters::is_within` meets its contract. Assumes nothing.
+-- `is_within` meets its contract: the two comparisons are those of the definition, on numbers passed on as they are. Assumes nothing.
 use mathlib.Core.Path.{_≡_, sym, ap, ap₂, _∙_}
 use mathlib.Core.Bool.{Bool, _&&_}
 use lib.Signed.{leZ, ltZ}

@@ -1,4 +1,4 @@
--- `inverse::wrap` meets its contract: the tests pick the case, and a turn more or less is within 64 bits. Assumes nothing.
+-- `wrap` meets its contract: the tests pick the case, and a turn more or less is within 64 bits. Assumes nothing.
 use mathlib.Core.Path.{sym, _∙_}
 use Rattle.proof_kit.proofs.Range.{code, fits, read, as-le, as-lt, le-taken, le-left, lt-taken, lt-left}
 use Rattle.units.proofs.Spans.{wrapped-low, wrapped-high, wrapped-between}

@@ -1,4 +1,4 @@
--- `pairs::are_finite` meets its contract: each call is one of the two tests. Assumes nothing.
+-- `are_finite` meets its contract: each call is one of the two tests. Assumes nothing.
 use borrow.Author.Needs.{needs}
 use Rattle.points.specs.Pairs.{areFinite}
 use Rattle.points.proofs.Tests.{first-fails, second-decides}

@@ -1,4 +1,4 @@
--- `pairs::in_degrees` meets its contract: each arm is a case of the definition. Assumes nothing.
+-- `in_degrees` meets its contract: each arm is a case of the definition. Assumes nothing.
 use borrow.Author.Needs.{needs}
 use mathlib.Core.Path.{_≡_, sym, ap, _∙_}
 use lib.Ieee.{Float}

@@ -1,4 +1,4 @@
--- `pairs::in_metres` meets its contract: each arm is a case of the definition. Assumes nothing.
+-- `in_metres` meets its contract: each arm is a case of the definition. Assumes nothing.
 use borrow.Author.Needs.{needs}
 use mathlib.Core.Path.{_≡_, sym, ap, _∙_}
 use lib.Ieee.{Float}
