@@ -5,14 +5,14 @@
 use mathlib.Core.Path.{_≡_, refl, sym, ap, _∙_}
 use mathlib.Core.Bool.{Bool, true, false, not}
 use mathlib.Core.Logic.{_⊎_, inl, inr}
-use Prim.Native.Nat.{ℕ, _+_, _-_, _/_, _<_, _≤_}
+use Prim.Native.Nat.{ℕ, _+_, _-_, _*_, _/_, _<_, _≤_}
 use native.Mathlib.Nat.{le-trans}
 use native.Mathlib.Omega.{arith}
 use lib.Dec.{leb}
 use borrow.Author.Tests.{leb-true, leb-false, le-leb, lt-leb, not-true, not-false}
 use Rattle.proof_kit.proofs.Order.{le-or-lt}
 use Rattle.integers.specs.Greatest.{greatest, bracketed}
-use Rattle.integers.specs.Search.{Span, About, widened}
+use Rattle.integers.specs.Search.{Span, About}
 use Rattle.integers.proofs.Greatest.{Falls, both, not-both, not-true as fails, greatest-le, greatest-passes, greatest-ge, greatest-skip}
 use Rattle.integers.proofs.Greatest.{one-left, lower-half}
 
@@ -164,7 +164,7 @@ module _ {Given : Type 0} {n estimate margin t : ℕ} (asked : (n - margin ≡ t
               absurd (not-both (told ∙ sym all) fail)
           at (inr l) = l
 
-      pub wider-asked : (n - widened margin < t) × (Given × About n estimate (widened margin))
-      wider-asked =
+      pub wider-asked : {wider : ℕ} → margin < wider → (margin < n → wider ≤ 16 * n) → (n - wider < t) × (Given × About n estimate wider)
+      wider-asked grows stays =
           let below = margin-below in
-          (omega (arith, asked .0), (asked .1 .0, record { inside = asked .1 .1 .inside; small = omega arith }))
+          (omega (arith, asked .0), (asked .1 .0, record { inside = asked .1 .1 .inside; small = stays below }))

@@ -1,7 +1,7 @@
 -- What a search for the greatest number from 0 to n that passes a test is asked of its numbers.
 use mathlib.Core.Path.{_≡_}
 use mathlib.Core.Bool.{Bool, true}
-use Prim.Native.Nat.{ℕ, _+_, _*_, _≤_}
+use Prim.Native.Nat.{ℕ, _*_, _≤_}
 
 -- A span to halve: its low end is known to pass.
 pub record Span (test : ℕ → Bool) (n low high : ℕ) : Type 0 where
@@ -9,11 +9,7 @@ pub record Span (test : ℕ → Bool) (n low high : ℕ) : Type 0 where
   pub inside : high ≤ n
   pub low-passes : test low ≡ true
 
--- The margin to try after this one.
-abbrev pub widened : ℕ → ℕ
-widened margin = 16 * margin + 4
-
--- A number and a margin about it. A margin of n reaches over all numbers, so no search needs one wider than that widened.
+-- A number and a margin about it. A margin of n reaches over all numbers, so one that is widened from below n is no larger than this.
 pub record About (n estimate margin : ℕ) : Type 0 where
   pub inside : estimate ≤ n
-  pub small : margin ≤ widened n
+  pub small : margin ≤ 16 * n

@@ -37,14 +37,16 @@ impl Geodetic {
         requires { ⌜ IsTable (now t) × (natAbs (self .0) ≤ right-angle) ⌝ }
         ensures { λ r. ⌜ r ≡ sineOf (self .0) ⌝ }
     {
-        sine(t, self.0)
+        let phi = self.0;
+        sine(t, phi)
     }
 
     pub fn cosine(self, t: &Table) -> i64
         requires { ⌜ IsTable (now t) × (natAbs (self .0) ≤ right-angle) ⌝ }
         ensures { λ r. ⌜ r ≡ cosineOf (self .0) ⌝ }
     {
-        cosine(t, self.0)
+        let phi = self.0;
+        cosine(t, phi)
     }
 }
 
@@ -53,14 +55,16 @@ impl Authalic {
         requires { ⌜ IsTable (now t) × (natAbs (self .0) ≤ right-angle) ⌝ }
         ensures { λ r. ⌜ r ≡ sineOf (self .0) ⌝ }
     {
-        sine(t, self.0)
+        let beta = self.0;
+        sine(t, beta)
     }
 
     pub fn cosine(self, t: &Table) -> i64
         requires { ⌜ IsTable (now t) × (natAbs (self .0) ≤ right-angle) ⌝ }
         ensures { λ r. ⌜ r ≡ cosineOf (self .0) ⌝ }
     {
-        cosine(t, self.0)
+        let beta = self.0;
+        cosine(t, beta)
     }
 }
 

@@ -1,7 +1,7 @@
 -- Laws of angle(p, q). The test of the search is passed by 0, whose sine is 0, and stays false once it is false, because from 0 to 90° the
 -- sine never falls and the cosine never rises. Assumes nothing.
 use mathlib.Core.Path.{_≡_, refl, sym, ap, ap₂, _∙_}
-use mathlib.Core.Bool.{Bool, true, false, cond, _&&_}
+use mathlib.Core.Bool.{Bool, true, false, _&&_}
 use mathlib.Core.List.{List}
 use Prim.Native.Nat.{ℕ, zero, suc, _+_, _-_, _*_, _<_, _≤_, zero-le}
 use native.Mathlib.Nat.{le-trans, mul-le-mul-right}
@@ -61,11 +61,11 @@ not-both-zero (suc p) q e = ap (λ (b : Bool). b && eqb q 0) (ne-eqb (suc p) 0 (
 -- the exception, and the rule
 pub angle-none : (p q : ℕ) → p + q ≡ 0 → angle p q ≡ 0
 unfolding angle
-angle-none p q e = ap (λ (b : Bool). cond b 0 (greatest (under p q) right-angle)) (both-zero p q e)
+angle-none p q e = rw (both-zero p q e)
 
 pub angle-some : (p q : ℕ) → (p + q ≡ 0 → ⊥) → angle p q ≡ greatest (under p q) right-angle
 unfolding angle
-angle-some p q e = ap (λ (b : Bool). cond b 0 (greatest (under p q) right-angle)) (not-both-zero p q e)
+angle-some p q e = rw (not-both-zero p q e)
 
 -- θ is under and θ + 1 is not
 pub angle-edge : (p q θ : ℕ) → (p + q ≡ 0 → ⊥) → θ < right-angle → under p q θ ≡ true → under p q (suc θ) ≡ false → angle p q ≡ θ

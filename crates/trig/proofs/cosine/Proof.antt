@@ -2,6 +2,8 @@
 -- Assumes nothing.
 use borrow.Author.Needs.{needs}
 use mathlib.Core.Path.{_≡_, ap, _∙_}
+use Prim.Native.Nat.{ℕ, _<_, _^_}
+use lib.Dec.{lit<}
 use lib.IntN.{ℤ, pos, _-ℤ_}
 use mir.Syntax.{w64}
 use mir.Val.{SFits, toZ, ofZ}
@@ -22,11 +24,11 @@ module _ (c : tie.Start) where
   angle-read : toZ w64 (ofZ w64 θ) ≡ θ
   angle-read = toZ-ofZ (c .fits .theta)
 
-  complement-fits : SFits w64 (pos right-angle -ℤ θ)
-  complement-fits = small-fits (pos right-angle -ℤ θ) (abs-sub (pos right-angle) θ) (omega (arith, c .pre .1))
+  rest-fits : (n : ℕ) → n < 2 ^ 62 → SFits w64 (pos n -ℤ θ)
+  rest-fits n h = small-fits (pos n -ℤ θ) (abs-sub (pos n) θ) (omega (arith, c .pre .1))
 
 sub-sine : tie.Need-sub-sine
-sub-sine c = rw (angle-read c) (complement-fits c)
+sub-sine c = rw (angle-read c) (rest-fits c _ (lit< tt))
 
 sine-requires : tie.Need-sine-requires
 sine-requires c κs = search needs
@@ -35,8 +37,8 @@ returns : tie.Need-returns
 unfolding cosine
 returns c =
     let start = c .before in
-    let complement-read = ap (λ (z : ℤ). toZ w64 (ofZ w64 (pos right-angle -ℤ z))) (angle-read start) ∙ toZ-ofZ (complement-fits start) in
-    toZ-ofZ {w = w64} (record { sfits = c .sine .ok }) ∙ c .sine .ensures ∙ ap sine complement-read
+    let rest-read = ap (λ (z : ℤ). toZ w64 (ofZ w64 (pos right-angle -ℤ z))) (angle-read start) ∙ toZ-ofZ (rest-fits start right-angle (lit< tt)) in
+    toZ-ofZ {w = w64} (record { sfits = c .sine .ok }) ∙ c .sine .ensures ∙ ap sine rest-read
 
 pub cosine-spec : {M : Type 1} → statement M
 cosine-spec = tie.close (tie.spec sub-sine sine-requires returns)
