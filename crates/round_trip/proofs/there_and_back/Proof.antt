@@ -29,8 +29,8 @@ returns c =
     let p = start .args .p in
     let there = c .before .before .before .before .forward .ensures .0 ∙ ap (forwardOf p (start .args .lat)) (toZ-ofZ (start .fits .lon)) in
     let is = c .inverse .ensures .0
-          ∙ ap₂ (inverseOf p) (search needs) (search needs)
-          ∙ ap (thereAndBack p) (sym (c .before .before .easting .given .1) ∙ there) in
+    ∙ ap₂ (inverseOf p) (search needs) (search needs)
+    ∙ ap (thereAndBack p) (sym (c .before .before .easting .given .1) ∙ there) in
     (is, meets-demand-3 p (start .args .lat) (start .args .lon) _ is)
 
 returns-2 : tie.Need-returns-2
