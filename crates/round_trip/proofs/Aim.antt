@@ -1,5 +1,6 @@
--- If (f, g) is W/U times the direction of t, but for errors of at most x and y, then its angle α is near t: 24·|α − t|·W is at most (5(x + y) + 34)·U, where whole turns do not count.
--- No sign of f or g is compared with one of t: if α were further off, the cross law at t and the sides of (f, g) before α would disagree. Assumes nothing.
+-- If (f, g) is W/U times the direction of t, but for errors of at most x and y, then its angle α is near t: 24·|α − t|·W is at most (5(x + y) + 34)·U, where
+-- whole turns do not count. No sign of f or g is compared with one of t: if α were further off, the cross law at t and the sides of (f, g) before α would
+-- disagree. Assumes nothing.
 use mathlib.Core.Path.{_≡_, ap, _∙_}
 use mathlib.Core.List.{[], _∷_}
 use Prim.Native.Nat.{ℕ, zero, suc, _+_, _-_, _*_, _<_, _≤_}
@@ -15,6 +16,7 @@ use Rattle.proof_kit.proofs.Certificate.{certify, nonneg}
 use Rattle.units.specs.Units.{unit, minute, right-angle, half-turn, full-turn}
 use Rattle.trig.specs.Sine.{sine, cosine}
 use Rattle.trig.proofs.Interface.{A, sine-odd, cosine-even, sine-size, cosine-size}
+use Rattle.round_trip.proofs.Numerals.{least-cosine}
 use Rattle.round_trip.proofs.Circle.{sine-turns, cosine-turns, outside-circle}
 use Rattle.round_trip.proofs.Cross.{cross, cross-right, cross-law}
 use Rattle.round_trip.proofs.Sector.{side, Sector, sector-opposite}
@@ -74,7 +76,7 @@ split W f g s c S C = ring (W ∷ f ∷ g ∷ s ∷ c ∷ S ∷ C ∷ []) (searc
 
 -- ---- the bound
 
-module _ {W x y : ℕ} (large : 17_000_000 ≤ W) (at-most : W ≤ unit) (small : x + y ≤ 1000) where
+module _ {W x y : ℕ} (large : least-cosine ≤ W) (at-most : W ≤ unit) (small : x + y ≤ 1000) where
   -- for α = t + d
   module _ {f g t : ℤ} (near : Near W x y f g t) where
     -- U times the side is W times the cross product, but for the errors
@@ -88,7 +90,8 @@ module _ {W x y : ℕ} (large : 17_000_000 ≤ W) (at-most : W ≤ unit) (small 
     -- the cross product of t and t + n is no greater than the errors, if t + n is at most 90° before α
     cross-small : (n d : ℕ) → n < d → d ≤ n + right-angle → Sector f g (t +ℤ pos d) → (pos W *ℤ cross t (t +ℤ pos n)) ≤ℤ pos (unit * unit * (x + y))
     cross-small n d h l s =
-        let e : t +ℤ pos d -ℤ pos (d - n) ≡ t +ℤ pos n = by-parts _ _ (omega (arith, parts-- (t +ℤ pos d) (pos (d - n)), parts-+ t (pos d), parts-+ t (pos n))) in
+        let e : t +ℤ pos d -ℤ pos (d - n) ≡ t +ℤ pos n =
+        by-parts _ _ (omega (arith, parts-- (t +ℤ pos d) (pos (d - n)), parts-+ t (pos d), parts-+ t (pos n))) in
         not-above (pos W *ℤ cross t (t +ℤ pos n)) (side f g (t +ℤ pos n)) (pos (unit * unit * (x + y)))
         (abs-upper _ (side-cross (t +ℤ pos n)))
         (rw e at (s .before (d - n) (omega arith) (omega arith)))
@@ -101,7 +104,9 @@ module _ {W x y : ℕ} (large : 17_000_000 ≤ W) (at-most : W ≤ unit) (small 
     -- and d is not above 90°
     far : (d : ℕ) → right-angle < d → d ≤ half-turn → Sector f g (t +ℤ pos d) → ⊥
     far d h l s =
-        let c : W * (unit - A) ≤ unit * (x + y) = pos-≤ (from-circle (pos W) (pos (x + y)) (sine t *ℤ sine t +ℤ cosine t *ℤ cosine t) (omega order) (outside-circle t) (rw (cross-right t) at (cross-small right-angle d h (omega arith) s))) in
+        let beyond = rw (cross-right t) at (cross-small right-angle d h (omega arith) s) in
+        let circle = from-circle (pos W) (pos (x + y)) (sine t *ℤ sine t +ℤ cosine t *ℤ cosine t) (omega order) (outside-circle t) beyond in
+        let c : W * (unit - A) ≤ unit * (x + y) = pos-≤ circle in
         omega arith
 
     -- α after t
@@ -122,7 +127,7 @@ module _ {W x y : ℕ} (large : 17_000_000 ≤ W) (at-most : W ≤ unit) (small 
 -- for α = t + d and any number j of turns
 pub aim :
     (W x y : ℕ) (f g t α d j : ℤ) →
-    17_000_000 ≤ W →
+    least-cosine ≤ W →
     W ≤ unit →
     natAbs (pos unit *ℤ f -ℤ pos W *ℤ cosine t) ≤ unit * x →
     natAbs (pos unit *ℤ g -ℤ pos W *ℤ sine t) ≤ unit * y →

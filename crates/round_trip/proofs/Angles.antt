@@ -22,7 +22,7 @@ use Rattle.latitudes.proofs.AuthalicLaws.{beta-size}
 use Rattle.azimuthal_forward.specs.Steps.{b, c, u, v, dE, dN}
 use Rattle.azimuthal_inverse.specs.Steps.{found}
 use Rattle.azimuthal_inverse.proofs.AngleLaws.{radius}
-use Rattle.round_trip.specs.RoundTrip.{turnGap}
+use Rattle.round_trip.specs.RoundTrip.{turnGap, sharp-latitude-bound, sharp-gap-halves}
 use Rattle.round_trip.proofs.Numerals.{unit, E1, Ez, ER}
 use Rattle.round_trip.proofs.Tools.{Near, parts}
 use Rattle.round_trip.proofs.Aim.{aim}
@@ -79,8 +79,8 @@ module _ {p : Parameters} {k : Constants} {φ : Geodetic} (lon : ℤ) (g : Given
       in-range : natAbs (φ .0) ≤ right-angle
       in-range = omega (arith, g .latitude)
 
-  -- so β′ is at most 96 mas from β, and the latitude at most 98 from φ
-  pub latitude-bound : natAbs (a .φ′ .0 -ℤ φ .0) ≤ 98
+  -- so β′ is at most Eβ from β, and the latitude as close to φ as the bound says
+  pub latitude-bound : natAbs (a .φ′ .0 -ℤ φ .0) ≤ sharp-latitude-bound
   latitude-bound = a .φ′-close φ (omega (arith, g .latitude)) (omega (arith, authalic-aim))
 
   -- ---- the longitude
@@ -111,5 +111,5 @@ module _ {p : Parameters} {k : Constants} {φ : Geodetic} (lon : ℤ) (g : Given
           ring-from (lon0 ∷ lon ∷ lon′ ∷ Δ′ ∷ i ∷ j ∷ []) (negℤ (pos 1)) e (search quote depth 40 fits 20000) tt
 
   -- so the longitude gap is at most 53.5
-  pub longitude-bound : (pos 2 *ℤ (pos (turnGap (a .lon′ -ℤ lon)) *ℤ c k φ (lon -ℤ p .lon0))) ≤ℤ pos (107 * unit)
+  pub longitude-bound : (pos 2 *ℤ (pos (turnGap (a .lon′ -ℤ lon)) *ℤ c k φ (lon -ℤ p .lon0))) ≤ℤ pos (sharp-gap-halves * unit)
   longitude-bound = rw (← (c-natural g)) (pos-≤ℤ (omega (arith, longitude-aim)))

@@ -1,5 +1,6 @@
 -- What the inverse steps answer for the shifts that the forward steps give: a position, and the two angles that it comes from.
--- Both shifts zero is the centre, whose answer is not computed: but the steps, were they taken, would find the centre's own sine and cosine, so its angles serve as well.
+-- Both shifts zero is the centre, whose answer is not computed: but the steps, were they taken, would find the centre's own sine and cosine, so its angles
+-- serve as well.
 -- Assumes nothing.
 use mathlib.Core.Path.{_≡_, refl, sym, ap, _∙_, subst}
 use mathlib.Core.Bool.{Bool, true, false}
@@ -9,7 +10,7 @@ use Prim.Native.Nat.{ℕ, _+_, _*_, _≤_}
 use native.Mathlib.Nat.{le-trans}
 use native.Mathlib.Omega.{arith}
 use lib.Dec.{lit<}
-use lib.IntN.{ℤ, pos, negℤ, natAbs, _+ℤ_, _-ℤ_, _*ℤ_, zero-*ℤ}
+use lib.IntN.{ℤ, pos, negℤ, natAbs, _+ℤ_, _-ℤ_, _*ℤ_, +ℤ-idr, *ℤ-comm, zero-*ℤ}
 use lib.Signed.{_≤ℤ_, _<ℤ_}
 use Rattle.proof_kit.proofs.Laws.{natAbs-parts, parts--}
 use Rattle.proof_kit.proofs.Order.{order, pos-abs, ≤ℤ-total, <ℤ-≤ℤ, le-of}
@@ -40,7 +41,8 @@ use Rattle.integers.proofs.Greatest.{both}
 use Rattle.constants.proofs.ConstantsLaws.{Sound}
 use Rattle.azimuthal_inverse.proofs.AnswerLaws.{from-origin, from-position}
 use Rattle.azimuthal_inverse.proofs.AngleLaws.{radius, latitude-size}
-use Rattle.round_trip.proofs.Numerals.{unit}
+use Rattle.round_trip.specs.RoundTrip.{sharp-latitude-bound as bound}
+use Rattle.round_trip.proofs.Numerals.{unit, Eβ}
 use Rattle.round_trip.proofs.Tools.{squares}
 use Rattle.round_trip.proofs.Sector.{Sector, angle-sector, latitude-sector, own-sector, zero-sector}
 use Rattle.round_trip.proofs.Latitude.{geodetic-close}
@@ -62,7 +64,7 @@ pub record Answer (p : Parameters) (k : Constants) (dE dN : ℤ) : Type 0 where
   pub β′-size : natAbs β′ ≤ right-angle
   pub latitude : Sector (pos (radius (found k dE dN))) (found k dE dN .z) β′
   pub longitude : Sector (found k dE dN .f) (found k dE dN .east) Δ′
-  pub φ′-close : (φ : Geodetic) → natAbs (φ .0) ≤ right-angle → natAbs (β′ -ℤ beta (k .series) φ .0) ≤ 96 → natAbs (φ′ .0 -ℤ φ .0) ≤ 98
+  pub φ′-close : (φ : Geodetic) → natAbs (φ .0) ≤ right-angle → natAbs (β′ -ℤ beta (k .series) φ .0) ≤ Eβ → natAbs (φ′ .0 -ℤ φ .0) ≤ bound
   pub lon′-is : lon′ ≡ p .lon0 +ℤ Δ′ +ℤ turns *ℤ pos full-turn
 
 -- ---- a point that is not the centre
@@ -125,22 +127,22 @@ origin dE dN e =
 -- latitudes whose β are close are close, as β rises by at least 0.993 for each mas, but for one
 module _ (k : AuthalicSeries) (small : SmallSeries k) where
   -- n mas of latitude are few where their β are close
-  few : (n : ℕ) (x y : ℤ) → (pos 993 *ℤ pos n -ℤ pos 1000) ≤ℤ (pos 1000 *ℤ (y -ℤ x)) → natAbs (y -ℤ x) ≤ 96 → n ≤ 98
+  few : (n : ℕ) (x y : ℤ) → (pos 993 *ℤ pos n -ℤ pos 1000) ≤ℤ (pos 1000 *ℤ (y -ℤ x)) → natAbs (y -ℤ x) ≤ Eβ → n ≤ bound
   few n x y slope close =
       omega (order, le-of (pos n ∷ x ∷ y ∷ []) (search quote depth 40 fits 20000) slope, natAbs-parts (y -ℤ x), parts-- y x)
 
   -- from φ up to ψ
-  rising : (φ ψ : ℤ) → φ ≤ℤ ψ → natAbs (betaMas k ψ -ℤ betaMas k φ) ≤ 96 → natAbs (ψ -ℤ φ) ≤ 98
+  rising : (φ ψ : ℤ) → φ ≤ℤ ψ → natAbs (betaMas k ψ -ℤ betaMas k φ) ≤ Eβ → natAbs (ψ -ℤ φ) ≤ bound
   rising φ ψ h close = few (natAbs (ψ -ℤ φ)) (betaMas k φ) (betaMas k ψ) (rw apart at (beta-slope k small (natAbs (ψ -ℤ φ)) φ)) close
     where
       apart : φ +ℤ pos (natAbs (ψ -ℤ φ)) ≡ ψ
       apart = ap (λ (x : ℤ). φ +ℤ x) (pos-abs (nonneg-gap h)) ∙ ring (φ ∷ ψ ∷ []) (search quote depth 40 fits 20000) tt
 
   -- either way
-  beta-close : (ψ φ : ℤ) → natAbs (betaMas k ψ -ℤ betaMas k φ) ≤ 96 → natAbs (ψ -ℤ φ) ≤ 98
+  beta-close : (ψ φ : ℤ) → natAbs (betaMas k ψ -ℤ betaMas k φ) ≤ Eβ → natAbs (ψ -ℤ φ) ≤ bound
   beta-close ψ φ close = at (≤ℤ-total φ ψ)
     where
-      at : (φ ≤ℤ ψ) ⊎ (ψ <ℤ φ) → natAbs (ψ -ℤ φ) ≤ 98
+      at : (φ ≤ℤ ψ) ⊎ (ψ <ℤ φ) → natAbs (ψ -ℤ φ) ≤ bound
       at (inl h) = rising φ ψ h close
       at (inr h) = rw (abs-sub-sym ψ φ) (rising ψ φ (<ℤ-≤ℤ h) (rw (abs-sub-sym (betaMas k φ) (betaMas k ψ)) close))
 
@@ -173,21 +175,18 @@ module _ (k : Constants) (sound : Sound k) where
   unfolding up
   up-zero = refl
 
-  -- z is S0
+  -- U times a number, over U
+  upright : (x : ℤ) → near (U *ℤ x +ℤ pos 0) unit ≡ x
+  upright x = rw (+ℤ-idr (U *ℤ x), *ℤ-comm U x) (near-whole x unit (lit< tt))
+
+  -- z is S0, and f is C0
   z-zero : zOf k U (pos 0) ≡ k .s0
   unfolding zOf
-  z-zero = rw (whole (k .s0) (k .c0)) (near-whole (k .s0) unit (lit< tt))
-    where
-      whole : (s c : ℤ) → U *ℤ s +ℤ pos 0 *ℤ c ≡ s *ℤ pos unit
-      whole s c = ring (s ∷ c ∷ []) (search quote depth 40 fits 20000) tt
+  z-zero = rw (zero-*ℤ (k .c0)) (upright (k .s0))
 
-  -- f is C0
   f-zero : fOf k U (pos 0) ≡ k .c0
   unfolding fOf
-  f-zero = rw (whole (k .s0) (k .c0)) (near-whole (k .c0) unit (lit< tt))
-    where
-      whole : (s c : ℤ) → U *ℤ c -ℤ pos 0 *ℤ s ≡ c *ℤ pos unit
-      whole s c = ring (s ∷ c ∷ []) (search quote depth 40 fits 20000) tt
+  f-zero = rw (zero-*ℤ (k .s0)) (upright (k .c0))
 
   -- all three coordinates
   found-zero : found k (pos 0) (pos 0) ≡ record { east = pos 0; z = k .s0; f = k .c0 }

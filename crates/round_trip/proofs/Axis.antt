@@ -1,5 +1,6 @@
--- One axis of the map. The forward steps take the length u by the scale H and the radius R to the shift d; the inverse takes d to X and, by its scale H′, to the length e.
--- East and north are both such an axis: each lemma is proved once and used for the two.
+-- One axis of the map. The forward steps take the length u by the scale H and the radius R to the shift d; the inverse takes d to X and, by its scale H′, to
+-- the length e. Each of the three is rounded once, so e is u but for the sum of those errors. East and north are both such an axis: each lemma is proved
+-- once and used for the two. Assumes nothing.
 use mathlib.Core.Path.{_≡_}
 use mathlib.Core.List.{[], _∷_}
 use Prim.Native.Nat.{ℕ, _+_, _*_, _≤_}

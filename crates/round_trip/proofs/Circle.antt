@@ -1,5 +1,5 @@
--- More laws of sine and cosine for every integer angle, which follow from those of `trig`: reflections, whole turns, and bounds on the cosine and on sine² + cosine².
--- Nothing here looks behind the interface of `trig`. Assumes nothing.
+-- More laws of sine and cosine for every integer angle, which follow from those of `trig`: reflections, whole turns, and bounds on the cosine and on
+-- sine² + cosine². Nothing here looks behind the interface of `trig`. Assumes nothing.
 use mathlib.Core.Path.{_≡_, sym, ap, _∙_}
 use mathlib.Core.List.{[], _∷_}
 use Prim.Native.Nat.{ℕ, zero, suc, _+_, _-_, _*_, _≤_}

@@ -49,7 +49,9 @@ computed :
     × Passes north-polar (latitude (pos 75)) (longitude (pos 100))
     × Passes south-polar (latitude (negℤ (pos 60))) (longitude (negℤ (pos 60)))
     × Passes oblique-sphere (latitude (pos 30)) (longitude (negℤ (pos 90)))
-unfolding within same polar accepted-a accepted-e2 accepted-lat0 accepted-lon0 accepted-false setRefusal on-globe nearness G b c v constantsOf S0 C0 β0 seriesOf k2 k4 k6 e4 e6 to-mas beta rounded terms near nearest entry between first-quarter first-half one-turn sine cosine
+unfolding within same polar accepted-a accepted-e2 accepted-lat0 accepted-lon0 accepted-false setRefusal on-globe nearness G b c v
+    constantsOf S0 C0 β0 seriesOf k2 k4 k6 e4 e6 to-mas beta rounded terms
+    near nearest entry between first-quarter first-half one-turn sine cosine
 computed = ((refl, refl, refl), (refl, refl, refl), (refl, refl, refl), (refl, refl, refl), (refl, refl, refl))
 
 pub conditions-met : ConditionsMet

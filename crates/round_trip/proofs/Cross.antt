@@ -1,5 +1,6 @@
--- The cross law. The cross product of two angles t and θ, sine(θ)·cosine(t) − cosine(θ)·sine(t), says how far apart they are: from t to t + n, at most a minute further, it is at least (24n − 10)/5 · U.
--- It holds at every angle, because a quarter turn keeps the cross product. Assumes nothing.
+-- The cross law. The cross product of two angles t and θ, sine(θ)·cosine(t) − cosine(θ)·sine(t), says how far apart they are: from t to t + n, at most a
+-- minute further, it is at least (24n − 10)/5 · U. In the first quadrant that follows from how fast the sine rises and the cosine falls there; it holds at
+-- every angle, because a quarter turn keeps the cross product. Assumes nothing.
 use mathlib.Core.Path.{_≡_}
 use mathlib.Core.List.{[], _∷_}
 use Prim.Native.Nat.{ℕ, _+_, _-_, _*_, _<_, _≤_}
@@ -110,7 +111,8 @@ apart-within θ n m h =
     (sine-plus-cosine (pos θ))
     (outside-circle (pos θ))
     (rw e at (sine-slope n θ h))
-    (rw (f, cosine-before θ (omega arith), sine-before θ (omega arith), sine-before (θ + n) (omega arith)) at (sine-slope n (right-angle - (θ + n)) (omega arith)))
+    (rw (f, cosine-before θ (omega arith), sine-before θ (omega arith), sine-before (θ + n) (omega arith)) at
+    (sine-slope n (right-angle - (θ + n)) (omega arith)))
 
 -- it holds of the angles up to a minute
 small : (a : ℕ) → a ≤ minute → Small (pos a) (sine (pos a)) (cosine (pos a))

@@ -1,5 +1,6 @@
 -- Demand 3: the round trip of every position at most 89° from the Equator whose nearness is at least U, with every accepted set.
--- The forward answer gives the shifts, the vectors' half of the proof shows that the inverse accepts them, and the angles' half bounds its answer. Assumes nothing.
+-- The forward answer gives the shifts, the vectors' half of the proof shows that the inverse accepts them, and the angles' half bounds its answer.
+-- Assumes nothing.
 use mathlib.Core.Path.{_≡_, refl, sym, ap, ap₂, _∙_, subst}
 use mathlib.Core.Bool.{Bool, true, false, _&&_}
 use mathlib.Core.List.{[], _∷_}
@@ -27,10 +28,11 @@ use Rattle.units.proofs.Spans.{Between}
 use Rattle.parameters.proofs.AcceptedSet.{accepted, lat0-size}
 use Rattle.constants.proofs.ConstantsLaws.{sound}
 use Rattle.azimuthal_inverse.proofs.AnswerLaws.{inverse-on-plane}
-use Rattle.round_trip.specs.RoundTrip.{longitudeGap, farthest-latitude, latitude-bound as latitude-limit, gap-bound, sharp-latitude-bound, sharp-gap-halves}
+use Rattle.round_trip.specs.RoundTrip.{longitudeGap, farthest-latitude, latitude-bound as latitude-limit, gap-bound}
+use Rattle.round_trip.specs.RoundTrip.{sharp-latitude-bound, sharp-gap-halves}
 use Rattle.round_trip.specs.RoundTrip.{Conditions, CloseTo, RoundTripAt, SharpRoundTrip, Demand3, thereAndBack, MeetsDemand3}
 use Rattle.round_trip.proofs.Numerals.{unit}
-use Rattle.round_trip.proofs.Accepted.{Accepted, accepted-forward}
+use Rattle.round_trip.proofs.AcceptedAnswer.{AcceptedAnswer, accepted-answer}
 use Rattle.round_trip.proofs.Limits.{circle-of, within-limits, forward-on-plane}
 use Rattle.round_trip.proofs.Steps.{Given, close-steps}
 use Rattle.round_trip.proofs.Answer.{Centred, Answer, answer}
@@ -85,7 +87,7 @@ module _ (p : Parameters) (φ : Geodetic) (lon : ℤ) where
   less-origin f d z e = ap (λ (x : ℤ). x -ℤ f) (sym e) ∙ ring (f ∷ d ∷ []) (search quote depth 40 fits 20000) tt
 
   -- so it takes the steps from the shifts
-  inverse-is : (E N : ℤ) → Accepted p φ lon E N → on-plane E N ≡ true → inverseOf p E N ≡ answerFrom p k eastward northward
+  inverse-is : (E N : ℤ) → AcceptedAnswer p φ lon E N → on-plane E N ≡ true → inverseOf p E N ≡ answerFrom p k eastward northward
   unfolding eastingOf northingOf
   inverse-is E N there plane =
       inverse-on-plane p E N (there .set-accepted) plane
@@ -95,7 +97,8 @@ module _ (p : Parameters) (φ : Geodetic) (lon : ℤ) where
   -- ---- the round trip
 
   -- an answer for the shifts is close to the position
-  close-answer : (g : Given k φ Δ) → Answer p k eastward northward → (result : GeodeticAnswer) → result ≡ answerFrom p k eastward northward → CloseTo sharp-latitude-bound sharp-gap-halves 2 p φ lon result
+  close-answer : (g : Given k φ Δ) → Answer p k eastward northward → (result : GeodeticAnswer) → result ≡ answerFrom p k eastward northward →
+      CloseTo sharp-latitude-bound sharp-gap-halves 2 p φ lon result
   unfolding longitudeGap constantsOf c
   close-answer g a result e =
       record {
@@ -115,7 +118,7 @@ module _ (p : Parameters) (φ : Geodetic) (lon : ℤ) where
       let ok = met .set-accepted in
       let g = given ok (met .from-equator) (met .near-centre) in
       let a = answer p k (sound p ok) (centred ok) eastward northward (shifts-on-map g) (shifts-near g) in
-      let there = accepted-forward p φ lon E N (met .answered) in
+      let there = accepted-answer p φ lon E N (met .answered) in
       close-answer g a (inverseOf p E N) (inverse-is E N there (forward-on-plane p φ lon E N (met .answered)))
 
 -- at most 98 mas, and 53.5
@@ -154,7 +157,8 @@ demand-3 p φ lon met =
 -- ---- there and back
 
 -- where the conditions are met, the way back starts from their easting and northing
-pub meets-demand-3 : (p : Parameters) (φ : Geodetic) (lon : ℤ) (result : GeodeticAnswer) → result ≡ thereAndBack p (forwardOf p φ lon) → MeetsDemand3 p φ lon result
+pub meets-demand-3 : (p : Parameters) (φ : Geodetic) (lon : ℤ) (result : GeodeticAnswer) → result ≡ thereAndBack p (forwardOf p φ lon) →
+    MeetsDemand3 p φ lon result
 unfolding MeetsDemand3 RoundTripAt thereAndBack
 meets-demand-3 p φ lon result e met =
     subst (CloseTo latitude-limit gap-bound 1 p φ lon) (sym (e ∙ ap (thereAndBack p) (met .answered))) (demand-3 p φ lon met)

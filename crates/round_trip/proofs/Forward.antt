@@ -1,5 +1,6 @@
 -- The forward steps: a point (b, c) of the meridian is turned by the longitude, then by the centre's latitude, each coordinate rounded to a whole number.
--- What is proved is that the rounded point (u, w, p) still lies on the sphere of radius U, but for a small error, and is no longer than U, but for 50.
+-- What is proved is that the rounded point (u, w, p) still lies on the sphere of radius U, but for a small error, and is no longer than U, but for 50:
+-- a turn by a sine and a cosine on the circle keeps the sum of squares, and a rounding adds little. Assumes nothing.
 use mathlib.Core.Path.{_≡_}
 use mathlib.Core.List.{[], _∷_}
 use Prim.Native.Nat.{ℕ, suc, _+_, _*_, _≤_, _<_}
@@ -9,14 +10,14 @@ use lib.Dec.{lit<, lit≤}
 use lib.IntN.{ℤ, pos, _+ℤ_, _-ℤ_, _*ℤ_, natAbs}
 use Rattle.proof_kit.proofs.Ring.{quote, ring}
 use Rattle.proof_kit.proofs.Size.{abs-by, square-abs, square-lt, within-upper}
-use Rattle.round_trip.proofs.Numerals.{unit, half, A}
+use Rattle.round_trip.proofs.Numerals.{unit, half, A, least-cosine}
 use Rattle.round_trip.proofs.Rotation.{turned, turned-axis, turn}
 use Rattle.round_trip.proofs.Tools.{Near, OnCircle, parts, by-way-of, near-size, squares, squares-upper, sum-by-squares}
 
 -- (b, c) is the position's sine and cosine, (S, C) the centre's, (s, t) the longitude's
 -- (u, v) is (c, 0), turned by the longitude; (p, w) is (b, v), turned by the centre
 pub record Forward (b S C s t u v w : ℤ) (c p : ℕ) : Type 0 where
-  pub c-least : 17000000 ≤ c
+  pub c-least : least-cosine ≤ c
   pub c-most : c ≤ unit
   pub b-most : natAbs b ≤ unit
   pub S-most : natAbs S ≤ unit
@@ -75,7 +76,8 @@ module _ {b S C s t u v w : ℤ} {c p : ℕ} (F : Forward b S C s t u v w c p) w
   -- the rounded point lies on the sphere, but for (3 A + 4) · U
   pub sphere : natAbs (u *ℤ u +ℤ w *ℤ w +ℤ pos p *ℤ pos p -ℤ pos unit *ℤ pos unit) ≤ (3 * A + 4) * unit
   sphere =
-      let change : natAbs (pos p *ℤ pos p +ℤ w *ℤ w -ℤ (b *ℤ b +ℤ v *ℤ v)) ≤ 2 * unit + A * unit = tilted (le-refl p) (le-refl (natAbs w)) (omega (arith, reach)) in
+      let change : natAbs (pos p *ℤ pos p +ℤ w *ℤ w -ℤ (b *ℤ b +ℤ v *ℤ v)) ≤ 2 * unit + A * unit =
+      tilted (le-refl p) (le-refl (natAbs w)) (omega (arith, reach)) in
       abs-by (three-circles u v w (pos p) b (pos c) (pos unit)) (search (parts, parallel) depth 40 fits 20000) (omega arith)
 
   -- the same in sizes, as an upper bound

@@ -1,5 +1,6 @@
 -- The inverse steps, taken at what the forward steps computed, end close to where those began: this is the vector's half of the round trip.
--- All is said of plain whole numbers. Rounded quotients and roots enter by what rounding promises, and a sine and a cosine by their circle.
+-- All is said of plain whole numbers. Rounded quotients and roots enter by what rounding promises, and a sine and a cosine by their circle: each error is
+-- an identity of what it is made up of, and the size of that. Assumes nothing.
 use mathlib.Core.Path.{_≡_}
 use mathlib.Core.List.{[], _∷_}
 use Prim.Native.Nat.{ℕ, suc, _+_, _*_, _≤_, _<_}
@@ -40,7 +41,7 @@ pub record Close (b u v dE dN K east z f : ℤ) (c RE RN R : ℕ) : Type 0 where
   pub f-close : natAbs (f -ℤ v) ≤ Ez
   pub east-close : natAbs (east -ℤ u) ≤ E1
   pub R-close : natAbs (pos R -ℤ pos c) ≤ ER
-  pub G-least : pos 20000000 ≤ℤ (pos (2 * unit) -ℤ K)
+  pub G-least : pos 20_000_000 ≤ℤ (pos (2 * unit) -ℤ K)
   pub dE-size : natAbs dE ≤ 2 * RE
   pub dN-size : natAbs dN ≤ 2 * RN
 
@@ -104,7 +105,7 @@ module _ {b S C s t u v w dE dN X Y K east north z f : ℤ} {c p H RE RN H′ R 
   G-close = rw (G-error (pos unit) K (pos p)) height-close
 
   -- it is far above the least that the inverse accepts
-  G-enough : pos 20000000 ≤ℤ (pos (2 * unit) -ℤ K)
+  G-enough : pos 20_000_000 ≤ℤ (pos (2 * unit) -ℤ K)
   G-enough =
       let G = pos (2 * unit) -ℤ K in
       omega (order, G-close, natAbs-parts (G -ℤ pos (unit + p)), parts-- G (pos (unit + p)))

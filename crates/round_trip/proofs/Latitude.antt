@@ -20,17 +20,19 @@ use Rattle.latitudes.specs.declared.AuthalicSeries.{AuthalicSeries}
 use Rattle.latitudes.specs.declared.Authalic.{Authalic}
 use Rattle.latitudes.specs.declared.Geodetic.{Geodetic}
 use Rattle.latitudes.proofs.AuthalicLaws.{mas, beta-slope}
+use Rattle.round_trip.specs.RoundTrip.{sharp-latitude-bound as bound}
+use Rattle.round_trip.proofs.Numerals.{Eβ}
 use Rattle.latitudes.specs.Latitude.{SmallSeries, beta, from-south-pole, not-above, geodetic}
 
 -- ---- two latitudes n mas apart, whose β are x and y
 
--- a number at most 96 from the lower β is below the higher one, if n is more than 98
-below-higher : (n : ℕ) (x y z : ℤ) → 98 < n → (pos 993 *ℤ pos n -ℤ pos 1000) ≤ℤ (pos 1000 *ℤ (y -ℤ x)) → natAbs (z -ℤ x) ≤ 96 → z <ℤ y
+-- a number at most Eβ from the lower β is below the higher one, if n is more than the bound
+below-higher : (n : ℕ) (x y z : ℤ) → bound < n → (pos 993 *ℤ pos n -ℤ pos 1000) ≤ℤ (pos 1000 *ℤ (y -ℤ x)) → natAbs (z -ℤ x) ≤ Eβ → z <ℤ y
 below-higher n x y z far slope close =
     omega (order, le-of (pos n ∷ x ∷ y ∷ []) (search quote depth 40 fits 20000) slope, natAbs-parts (z -ℤ x), parts-- z x)
 
--- a number at most 96 from the higher β is not below the lower one, if n is 98
-above-lower : (x y z : ℤ) → (pos 993 *ℤ pos 98 -ℤ pos 1000) ≤ℤ (pos 1000 *ℤ (y -ℤ x)) → natAbs (z -ℤ y) ≤ 96 → x ≤ℤ z
+-- a number at most Eβ from the higher β is not below the lower one, if n is the bound
+above-lower : (x y z : ℤ) → (pos 993 *ℤ pos bound -ℤ pos 1000) ≤ℤ (pos 1000 *ℤ (y -ℤ x)) → natAbs (z -ℤ y) ≤ Eβ → x ≤ℤ z
 above-lower x y z slope close =
     omega (order, le-of (x ∷ y ∷ []) (search quote depth 40 fits 20000) slope, natAbs-parts (z -ℤ y), parts-- z y)
 
@@ -45,37 +47,37 @@ module _ (k : AuthalicSeries) (small : SmallSeries k) (β′ : Authalic) where
       moved : (x y r : ℤ) → x +ℤ y -ℤ r ≡ x -ℤ r +ℤ y
       moved x y r = ring (x ∷ y ∷ r ∷ []) (search quote depth 40 fits 20000) tt
 
-  module _ (m : ℕ) (m-most : m ≤ half-turn) (close : natAbs (β′ .0 -ℤ beta k (from-south-pole m) .0) ≤ 96) where
-    -- more than 98 north of m, no latitude passes the test
-    fails : (j : ℕ) → m + 98 < j → not-above k β′ j ≡ false
+  module _ (m : ℕ) (m-most : m ≤ half-turn) (close : natAbs (β′ .0 -ℤ beta k (from-south-pole m) .0) ≤ Eβ) where
+    -- more than the bound north of m, no latitude passes the test
+    fails : (j : ℕ) → m + bound < j → not-above k β′ j ≡ false
     unfolding not-above
     fails j far =
         let e : m + (j - m) ≡ j = omega arith in
         lt-leZ (below-higher (j - m) (beta k (from-south-pole m) .0) (beta k (from-south-pole j) .0) (β′ .0) (omega arith) (rw e at (slope m (j - m))) close)
 
-    -- so the greatest is at most 98 north of m
-    found-most : greatest (not-above k β′) half-turn ≤ m + 98
-    found-most = at (decLe (m + 98) half-turn)
+    -- so the greatest is at most the bound north of m
+    found-most : greatest (not-above k β′) half-turn ≤ m + bound
+    found-most = at (decLe (m + bound) half-turn)
       where
-        at : Dec (m + 98 ≤ half-turn) → greatest (not-above k β′) half-turn ≤ m + 98
-        at (yes h) = rw (greatest-skip (not-above k β′) half-turn (m + 98) h (λ j far up. fails j far)) (greatest-le (not-above k β′) (m + 98))
+        at : Dec (m + bound ≤ half-turn) → greatest (not-above k β′) half-turn ≤ m + bound
+        at (yes h) = rw (greatest-skip (not-above k β′) half-turn (m + bound) h (λ j far up. fails j far)) (greatest-le (not-above k β′) (m + bound))
         at (no h) = omega (arith, greatest-le (not-above k β′) half-turn)
 
-    -- 98 south of m, the latitude passes the test
-    passes : (j : ℕ) → j + 98 ≡ m → not-above k β′ j ≡ true
+    -- by the bound south of m, the latitude passes the test
+    passes : (j : ℕ) → j + bound ≡ m → not-above k β′ j ≡ true
     unfolding not-above
-    passes j e = le-leZ (above-lower (beta k (from-south-pole j) .0) (beta k (from-south-pole m) .0) (β′ .0) (rw e at (slope j 98)) close)
+    passes j e = le-leZ (above-lower (beta k (from-south-pole j) .0) (beta k (from-south-pole m) .0) (β′ .0) (rw e at (slope j bound)) close)
 
-    -- so the greatest is at most 98 south of m
-    found-least : m ≤ greatest (not-above k β′) half-turn + 98
-    found-least = at (decLe m 98)
+    -- so the greatest is at most the bound south of m
+    found-least : m ≤ greatest (not-above k β′) half-turn + bound
+    found-least = at (decLe m bound)
       where
-        at : Dec (m ≤ 98) → m ≤ greatest (not-above k β′) half-turn + 98
+        at : Dec (m ≤ bound) → m ≤ greatest (not-above k β′) half-turn + bound
         at (yes h) = omega arith
-        at (no h) = omega (arith, greatest-ge (not-above k β′) half-turn (m - 98) (omega arith) (passes (m - 98) (omega arith)))
+        at (no h) = omega (arith, greatest-ge (not-above k β′) half-turn (m - bound) (omega arith) (passes (m - bound) (omega arith)))
 
     -- the two as latitudes
-    counted-close : natAbs (geodetic k β′ .0 -ℤ from-south-pole m .0) ≤ 98
+    counted-close : natAbs (geodetic k β′ .0 -ℤ from-south-pole m .0) ≤ bound
     unfolding geodetic from-south-pole
     counted-close =
         rw (apart (pos (greatest (not-above k β′) half-turn)) (pos m) (pos right-angle))
@@ -103,7 +105,7 @@ count-most φ h = omega (arith, natAbs-parts φ, natAbs-parts (φ +ℤ pos right
 
 -- the geodetic latitude of a β near that of φ is near φ
 pub geodetic-close : (k : AuthalicSeries) → SmallSeries k → (φ : Geodetic) (β′ : Authalic) → natAbs (φ .0) ≤ right-angle →
-    natAbs (β′ .0 -ℤ beta k φ .0) ≤ 96 → natAbs (geodetic k β′ .0 -ℤ φ .0) ≤ 98
+    natAbs (β′ .0 -ℤ beta k φ .0) ≤ Eβ → natAbs (geodetic k β′ .0 -ℤ φ .0) ≤ bound
 geodetic-close k small φ β′ h close =
     let is : from-south-pole (natAbs (φ .0 +ℤ pos right-angle)) ≡ φ = count-of φ h in
     rw is at (counted-close k small β′ (natAbs (φ .0 +ℤ pos right-angle)) (count-most (φ .0) h) (rw is close))

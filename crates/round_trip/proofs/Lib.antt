@@ -11,7 +11,7 @@ pub mod Cross
 pub mod Sector
 pub mod Aim
 pub mod Rounding
-pub mod Accepted
+pub mod AcceptedAnswer
 pub mod Limits
 pub mod Gap
 pub mod Poles

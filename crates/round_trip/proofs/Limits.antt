@@ -1,5 +1,6 @@
 -- Every accepted forward answer lies within the plane's limits, so refusal 3 of the inverse never meets one.
--- The rounded point (u, w, G − U) lies near the sphere of radius U, so u² + w² is little more than 2 U G, and H² is U G / 2: u and w are at most 3 H, where 2 H is the truth.
+-- The rounded point (u, w, G − U) lies near the sphere of radius U, so u² + w² is little more than 2 U G, and H² is U G / 2: u and w are at most 3 H, where
+-- 2 H is the truth. A shift is then at most three radii, and with the false origin well within the limits.
 -- Assumes nothing.
 use mathlib.Core.Path.{_≡_, sym, ap₂, subst}
 use mathlib.Core.Bool.{true, _&&_}
@@ -31,7 +32,7 @@ use Rattle.parameters.proofs.AcceptedSet.{accepted}
 use Rattle.constants.proofs.ConstantsLaws.{Sound, sound}
 use Rattle.azimuthal_forward.proofs.ForwardLaws.{b-size, c-size, u-size, v-size, w-size, sum-size, H-least}
 use Rattle.round_trip.specs.RoundTrip.{ForwardOnPlane}
-use Rattle.round_trip.proofs.Accepted.{accepted-forward}
+use Rattle.round_trip.proofs.AcceptedAnswer.{accepted-answer}
 use Rattle.round_trip.proofs.Forward.{three-circles}
 use Rattle.round_trip.proofs.Numerals.{unit, half}
 use Rattle.round_trip.proofs.Rounding.{near-unit, scale-root}
@@ -50,9 +51,14 @@ module _ (b c S C s t u v w p : ℤ)
   -- from coarse bounds of all coordinates
   coarse-sphere : natAbs (u *ℤ u +ℤ w *ℤ w +ℤ p *ℤ p -ℤ pos unit *ℤ pos unit) ≤ 200 * unit
   coarse-sphere =
-      let parallel : natAbs (u *ℤ u +ℤ v *ℤ v -ℤ c *ℤ c) ≤ 50 * unit = turn (s *ℤ s +ℤ t *ℤ t) (c *ℤ c) (c *ℤ s) (c *ℤ t) u v (turned-axis s t c) longitude near-u near-v (abs-mul-le c c c-most c-most) u-most v-most (lit< tt) in
-      let level : natAbs (b *ℤ b +ℤ v *ℤ v) ≤ unit * unit + unit * unit = abs-add-le (b *ℤ b) (v *ℤ v) (abs-mul-le b b b-most b-most) (abs-mul-le v v v-most v-most) in
-      let tilted : natAbs (p *ℤ p +ℤ w *ℤ w -ℤ (b *ℤ b +ℤ v *ℤ v)) ≤ 100 * unit = turn (S *ℤ S +ℤ C *ℤ C) (b *ℤ b +ℤ v *ℤ v) (S *ℤ b +ℤ C *ℤ v) (C *ℤ b -ℤ S *ℤ v) p w (turned S C b v) centre near-p near-w level p-most w-most (lit< tt) in
+      let parallel : natAbs (u *ℤ u +ℤ v *ℤ v -ℤ c *ℤ c) ≤ 50 * unit =
+      turn (s *ℤ s +ℤ t *ℤ t) (c *ℤ c) (c *ℤ s) (c *ℤ t) u v (turned-axis s t c) longitude near-u near-v
+      (abs-mul-le c c c-most c-most) u-most v-most (lit< tt) in
+      let level : natAbs (b *ℤ b +ℤ v *ℤ v) ≤ unit * unit + unit * unit =
+      abs-add-le (b *ℤ b) (v *ℤ v) (abs-mul-le b b b-most b-most) (abs-mul-le v v v-most v-most) in
+      let tilted : natAbs (p *ℤ p +ℤ w *ℤ w -ℤ (b *ℤ b +ℤ v *ℤ v)) ≤ 100 * unit =
+      turn (S *ℤ S +ℤ C *ℤ C) (b *ℤ b +ℤ v *ℤ v) (S *ℤ b +ℤ C *ℤ v) (C *ℤ b -ℤ S *ℤ v) p w (turned S C b v) centre near-p near-w
+      level p-most w-most (lit< tt) in
       abs-by (three-circles u v w p b c (pos unit)) (search parts depth 40 fits 20000) (lit≤ tt)
 
 -- ---- the scale
@@ -158,5 +164,5 @@ steps-on-plane p φ lon ok enough =
 -- every accepted forward answer, of every accepted set, lies within the limits of refusal 3
 pub forward-on-plane : ForwardOnPlane
 forward-on-plane p φ lon E N e =
-    let answer = accepted-forward p φ lon E N e in
+    let answer = accepted-answer p φ lon E N e in
     rw (answer .easting, answer .northing) at (steps-on-plane p φ lon (answer .set-accepted) (answer .enough))

@@ -1,5 +1,5 @@
 -- The numbers of the round trip. All error bounds follow from one of them, A: how far sine² + cosine² may be from 1, in units of 1 / U.
--- The rest of the proof asks of A only closed inequalities, which the checker computes: a better sine changes the one numeral of A.
+-- The rest of the proof asks of A only closed inequalities, which the checker computes: a better sine changes the one numeral of A. Assumes nothing.
 use Prim.Native.Nat.{ℕ, _+_, _*_}
 -- U: what stands for 1, of which sines and lengths are whole multiples
 pub use Rattle.units.specs.Units.{unit}
@@ -7,7 +7,7 @@ pub use Rattle.units.specs.Units.{unit}
 pub use Rattle.trig.proofs.Interface.{A}
 
 abbrev pub half : ℕ
-half = 500000000
+half = 500_000_000
 
 -- κ: the error of the height above the map's plane
 abbrev pub κ : ℕ
@@ -31,4 +31,12 @@ ER = 9 * A + 50
 
 -- the least scale: U / √2, rounded down
 abbrev pub H0 : ℕ
-H0 = 707106781
+H0 = 707_106_781
+
+-- at most 89° from the Equator the cosine of β is not less: 0.017
+abbrev pub least-cosine : ℕ
+least-cosine = 17_000_000
+
+-- the error of β, in mas: (5 (ER + Ez) + 34) / 24, rounded down
+abbrev pub Eβ : ℕ
+Eβ = 96

@@ -1,6 +1,7 @@
 -- A turn by an angle of sine S and cosine C takes (m, n) to (S m + C n, C m − S n), each coordinate divided by U and rounded.
 -- The turn back takes (up, north) to (up S + north C, up C − north S), divided and rounded likewise.
--- A rounded turn keeps the sum of squares, and a turn back leads to (m, n), but for small errors.
+-- A rounded turn keeps the sum of squares, and a turn back leads to (m, n), but for small errors: S² + C² is U² but for A · U, and a rounding is off by at
+-- most one half. Assumes nothing.
 use mathlib.Core.Path.{_≡_}
 use mathlib.Core.List.{[], _∷_}
 use Prim.Native.Nat.{ℕ, suc, _+_, _*_, _≤_, _<_}

@@ -1,5 +1,6 @@
 -- The map's scale: the root of half of U · G, where G is U plus the point's height, or the inverse's value of that.
--- It is between U / √2 and U, and where G is off by κ it is off by λ.
+-- It is between U / √2 and U, and where G is off by κ it is off by λ, as the squares of two roots that are λ apart are more than half of U · κ apart.
+-- Assumes nothing.
 use Prim.Native.Nat.{ℕ, _+_, _*_, _-_, _≤_, _<_}
 use native.Mathlib.Omega.{arith}
 use lib.IntN.{pos, _-ℤ_, _*ℤ_, natAbs}

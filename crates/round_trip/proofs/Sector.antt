@@ -1,5 +1,6 @@
--- The angle of two numbers f and g. All that is used of an angle α is on which side of it (f, g) lies: sine(θ)·f − cosine(θ)·g is not negative in the 90° after α, and not positive in the 90° before it.
--- This holds of the angles that the projection computes, in all quadrants: in the first by the laws of sine, in the others by reflections. Assumes nothing.
+-- The angle of two numbers f and g. All that is used of an angle α is on which side of it (f, g) lies: sine(θ)·f − cosine(θ)·g is not negative in the 90°
+-- after α, and not positive in the 90° before it. This holds of the angles that the projection computes, in all quadrants: in the first by the laws of
+-- sine, in the others by reflections. Assumes nothing.
 use mathlib.Core.Path.{_≡_}
 use mathlib.Core.Bool.{cond}
 use mathlib.Core.List.{[], _∷_}
@@ -20,7 +21,8 @@ use Rattle.integers.proofs.Greatest.{greatest-le, greatest-passes, greatest-ge}
 use Rattle.units.specs.Units.{right-angle, half-turn}
 use Rattle.trig.specs.Sine.{sine, cosine}
 use Rattle.trig.specs.Angle.{under, angle}
-use Rattle.trig.proofs.Interface.{sine-odd, sine-supplement, sine-quarter-turn, cosine-quarter-turn, cosine-even, cosine-complement, sine-nonneg, cosine-nonneg, sine-mono, cosine-anti}
+use Rattle.trig.proofs.Interface.{sine-odd, sine-supplement, sine-quarter-turn, cosine-quarter-turn, cosine-even, cosine-complement}
+use Rattle.trig.proofs.Interface.{sine-nonneg, cosine-nonneg, sine-mono, cosine-anti}
 use Rattle.trig.proofs.Angles.{under-zero, under-falls, angle-none, angle-some}
 use Rattle.round_trip.proofs.Circle.{pos-minus, sine-complement, cosine-supplement, sine-before, cosine-before}
 
@@ -165,7 +167,8 @@ zero-sector f h = quarter-sector (edge-zero f h)
 -- from 0 to 90° the greater angle has the greater sine and the smaller cosine
 crossing : (a b : ℕ) → a ≤ b → b ≤ right-angle → (sine (pos a) *ℤ cosine (pos b)) ≤ℤ (cosine (pos a) *ℤ sine (pos b))
 crossing a b h l =
-    box (sine (pos a)) (cosine (pos a)) (sine (pos b)) (cosine (pos b)) (sine-nonneg a (omega arith)) (cosine-nonneg (pos a) (omega arith)) (sine-mono a b h l) (cosine-anti a b h l)
+    box (sine (pos a)) (cosine (pos a)) (sine (pos b)) (cosine (pos b))
+    (sine-nonneg a (omega arith)) (cosine-nonneg (pos a) (omega arith)) (sine-mono a b h l) (cosine-anti a b h l)
   where
     box : (s c s′ c′ : ℤ) → pos 0 ≤ℤ s → pos 0 ≤ℤ c → s ≤ℤ s′ → c′ ≤ℤ c → (s *ℤ c′) ≤ℤ (c *ℤ s′)
     box s c s′ c′ s0 c0 rise fall =

@@ -23,7 +23,8 @@ use Rattle.units.proofs.Spans.{Between}
 use Rattle.azimuthal_forward.proofs.ForwardLaws.{H-least}
 use Rattle.constants.proofs.ConstantsLaws.{Sound}
 use Rattle.azimuthal_inverse.proofs.AngleLaws.{radius}
-use Rattle.round_trip.proofs.Numerals.{unit}
+use Rattle.round_trip.specs.RoundTrip.{farthest-latitude}
+use Rattle.round_trip.proofs.Numerals.{unit, least-cosine}
 use Rattle.round_trip.proofs.Tools.{Near, OnCircle}
 use Rattle.round_trip.proofs.Rounding.{near-near, near-unit, length-root, scale-root}
 use Rattle.round_trip.proofs.Forward.{Forward}
@@ -41,12 +42,12 @@ above-unit x h = omega (order, parts-+ U x)
 pub record Given (k : Constants) (φ : Geodetic) (Δ : ℤ) : Type 0 where
   pub sound : Sound k
   pub centre : OnCircle (k .s0) (k .c0)
-  pub latitude : natAbs (φ .0) ≤ 320_400_000
+  pub latitude : natAbs (φ .0) ≤ farthest-latitude
   pub near-centre : pos unit ≤ℤ G k φ Δ
 
 module _ {k : Constants} {φ : Geodetic} {Δ : ℤ} (g : Given k φ Δ) where
   -- c is far enough above 0
-  c-large : pos 17_000_000 ≤ℤ c k φ Δ
+  c-large : pos least-cosine ≤ℤ c k φ Δ
   unfolding c
   c-large = cosine-at-89 (k .series) (g .sound .small) (φ .0) (g .latitude)
 
@@ -141,7 +142,9 @@ module _ {k : Constants} {φ : Geodetic} {Δ : ℤ} (g : Given k φ Δ) where
 
   -- the inverse steps
   inverse-steps :
-      Inverse (k .s0) (k .c0) (u k φ Δ) (w k φ Δ) (dE k φ Δ) (dN k φ Δ) (X k (dE k φ Δ)) (Y k (dN k φ Δ)) K′ (point .east) (level K′ (Y k (dN k φ Δ))) (point .z) (point .f) (natAbs height) (H (G k φ Δ)) (natAbs (k .rd)) (natAbs (k .rn)) (H (G′ K′)) (radius point)
+      Inverse (k .s0) (k .c0) (u k φ Δ) (w k φ Δ) (dE k φ Δ) (dN k φ Δ) (X k (dE k φ Δ)) (Y k (dN k φ Δ)) K′
+      (point .east) (level K′ (Y k (dN k φ Δ))) (point .z) (point .f)
+      (natAbs height) (H (G k φ Δ)) (natAbs (k .rd)) (natAbs (k .rn)) (H (G′ K′)) (radius point)
   unfolding dE dN X Y K versineOf level up zOf fOf pointOf found G′
   inverse-steps =
       let x : ℤ = X k (dE k φ Δ) in
@@ -158,5 +161,7 @@ module _ {k : Constants} {φ : Geodetic} {Δ : ℤ} (g : Given k φ Δ) where
       }
 
   -- the inverse accepts, and ends close to where the forward steps began
-  pub close-steps : Close (b k φ Δ) (u k φ Δ) (v k φ Δ) (dE k φ Δ) (dN k φ Δ) K′ (point .east) (point .z) (point .f) (natAbs (c k φ Δ)) (natAbs (k .rd)) (natAbs (k .rn)) (radius point)
+  pub close-steps :
+      Close (b k φ Δ) (u k φ Δ) (v k φ Δ) (dE k φ Δ) (dN k φ Δ) K′ (point .east) (point .z) (point .f)
+      (natAbs (c k φ Δ)) (natAbs (k .rd)) (natAbs (k .rn)) (radius point)
   close-steps = close forward-steps inverse-steps

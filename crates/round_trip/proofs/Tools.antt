@@ -1,5 +1,6 @@
 -- What the proof says of rounded quotients, of roots and of squares, whatever they stand for.
--- A rounded quotient enters by how far it is from the exact one (`Near`), a root by the two squares that hold its number (`Root`): no rounding is computed here.
+-- A rounded quotient enters by how far it is from the exact one (`Near`), a root by the two squares that hold its number (`Root`): no rounding is computed
+-- here. A bound on a k-fold is one on the number itself, and a bound on a sum of squares is one on the sum. Assumes nothing.
 use mathlib.Core.Path.{_≡_, refl, sym}
 use mathlib.Core.List.{[], _∷_}
 use Prim.Native.Nat.{ℕ, suc, _+_, _*_, _≤_, _<_}

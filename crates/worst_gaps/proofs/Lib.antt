@@ -1,1 +1,4 @@
 mod ReadBack
+mod Sequence
+mod GapLaws
+mod BackLaws

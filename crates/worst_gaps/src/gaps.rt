@@ -3,43 +3,64 @@ use integers::magnitude;
 use latitudes::AuthalicSeries;
 use latitudes::Geodetic;
 use latitudes::to_authalic;
-ghost use Prim.Native.Nat.{_≤_};
-ghost use lib.IntN.{natAbs};
+use sine_table::Table;
+use units::FULL_TURN;
+use units::HALF_TURN;
+ghost use mathlib.Core.Path.{_≡_};
+ghost use Prim.Native.Nat.{_*_, _≤_};
+ghost use lib.IntN.{pos, natAbs, _-ℤ_};
 ghost use Rattle.sine_table.specs.Table.{IsTable};
 ghost use Rattle.units.specs.Units.{unit, right-angle, half-turn};
-ghost use Rattle.latitudes.specs.Latitude.{SmallSeries};
+ghost use Rattle.trig.specs.Sine.{cosine};
+ghost use Rattle.latitudes.specs.Latitude.{SmallSeries, beta};
+ghost use Rattle.round_trip.specs.RoundTrip.{turnGap};
+ghost use Rattle.worst_gaps.specs.Gaps.{thousandthsOf};
+
+// Billionths in a thousandth, and what is added to round up.
+const THOUSANDTH: u64 = 1_000_000;
+
+const BELOW_THOUSANDTH: u64 = 999_999;
 
 // The size of the difference of two angles.
 pub(crate) fn gap(x: i64, y: i64) -> u64
     requires { ⌜ (natAbs x ≤ half-turn) × (natAbs y ≤ half-turn) ⌝ }
-    ensures { λ r. ⌜ r ≤ 1_296_000_000 ⌝ }
+    ensures { λ r. ⌜ r ≡ natAbs (y -ℤ x) ⌝ }
 {
-    magnitude(x - y)
+    magnitude(y - x)
 }
 
 // The smallest size that the difference of two longitudes plus whole turns can have.
-pub(crate) fn turn_gap(x: i64, y: i64) -> u64
+fn turn_gap(x: i64, y: i64) -> u64
     requires { ⌜ (natAbs x ≤ half-turn) × (natAbs y ≤ half-turn) ⌝ }
-    ensures { λ r. ⌜ r ≤ half-turn ⌝ }
+    ensures { λ r. ⌜ r ≡ turnGap (y -ℤ x) ⌝ }
 {
     let size = gap(x, y);
-    if 648000000 < size {
-        return 1296000000 - size;
+    if HALF_TURN < size {
+        return FULL_TURN - size;
     }
     size
 }
 
-// cosine(β) of a geodetic latitude.
-pub(crate) fn weight(t: &[u32; 5401], series: AuthalicSeries, lat: Geodetic) -> u64
+// cosine(β) of a geodetic latitude, which is not negative.
+fn weight(t: &Table, series: AuthalicSeries, lat: Geodetic) -> u64
     requires { ⌜ IsTable (now t) × SmallSeries series × (natAbs (lat .0) ≤ right-angle) ⌝ }
-    ensures { λ r. ⌜ r ≤ unit ⌝ }
+    ensures { λ r. ⌜ pos r ≡ cosine (beta series lat .0) ⌝ }
 {
     magnitude(to_authalic(t, series, lat).cosine(t))
 }
 
-// The longitude gap, a turn gap times cosine(β)/U, in thousandths of a mas, rounded up.
-pub(crate) fn thousandths(turn: u64, cosine: u64) -> u64
+// A turn gap times cosine(β)/U, in thousandths of a mas, rounded up.
+fn thousandths(turn: u64, cosine: u64) -> u64
     requires { ⌜ (turn ≤ half-turn) × (cosine ≤ unit) ⌝ }
+    ensures { λ r. ⌜ r ≡ thousandthsOf (turn * cosine) ⌝ }
 {
-    (turn * cosine + 999999) / 1000000
+    (turn * cosine + BELOW_THOUSANDTH) / THOUSANDTH
+}
+
+// The longitude gap at a latitude, in thousandths of a mas.
+pub(crate) fn longitude_gap(t: &Table, series: AuthalicSeries, lat: Geodetic, x: i64, y: i64) -> u64
+    requires { ⌜ IsTable (now t) × SmallSeries series × (natAbs (lat .0) ≤ right-angle) × (natAbs x ≤ half-turn) × (natAbs y ≤ half-turn) ⌝ }
+    ensures { λ r. ⌜ r ≡ thousandthsOf (turnGap (y -ℤ x) * natAbs (cosine (beta series lat .0))) ⌝ }
+{
+    thousandths(turn_gap(x, y), weight(t, series, lat))
 }

@@ -2,6 +2,7 @@
 use crate::trips::row;
 use latitudes::Geodetic;
 use parameters::Parameters;
+use sine_table::Table;
 ghost use Rattle.sine_table.specs.Table.{IsTable};
 
 // A set by its numbers, with one number for both false coordinates.
@@ -16,56 +17,86 @@ fn set(a: i64, e2: i64, lat0: i64, lon0: i64, false_origin: i64) -> Parameters {
     }
 }
 
-pub(crate) fn oblique(t: &[u32; 5401])
+pub(crate) fn oblique(t: &Table)
     requires { ⌜ IsTable (now t) ⌝ }
 {
     row(t, b"ETRS-LAEA", Parameters::etrs_laea());
     row(
         t,
         b"oblique sphere",
-        set(600000000, 0, 144000000, -360000000, 0),
+        set(600_000_000, 0, 144_000_000, -360_000_000, 0),
     );
     row(
         t,
         b"85 degrees north",
-        set(100000000, 6722670, 306000000, -647999999, 1000000000),
+        set(
+            100_000_000,
+            6_722_670,
+            306_000_000,
+            -647_999_999,
+            1_000_000_000,
+        ),
     );
     row(
         t,
         b"85 degrees south",
-        set(1000000000, 10000000, -306000000, 648000000, -1000000000),
+        set(
+            1_000_000_000,
+            10_000_000,
+            -306_000_000,
+            648_000_000,
+            -1_000_000_000,
+        ),
     );
 }
 
-pub(crate) fn equatorial(t: &[u32; 5401])
+pub(crate) fn equatorial(t: &Table)
     requires { ⌜ IsTable (now t) ⌝ }
 {
-    row(t, b"equatorial ellipsoid", set(637813700, 6694380, 0, 0, 0));
-    row(t, b"equatorial sphere", set(100000000, 0, 0, 648000000, 0));
+    row(
+        t,
+        b"equatorial ellipsoid",
+        set(637_813_700, 6_694_380, 0, 0, 0),
+    );
+    row(
+        t,
+        b"equatorial sphere",
+        set(100_000_000, 0, 0, 648_000_000, 0),
+    );
 }
 
-pub(crate) fn north_polar(t: &[u32; 5401])
+pub(crate) fn north_polar(t: &Table)
     requires { ⌜ IsTable (now t) ⌝ }
 {
     row(
         t,
         b"north polar ellipsoid",
-        set(637838800, 6722670, 324000000, -360000000, 200000000),
+        set(
+            637_838_800,
+            6_722_670,
+            324_000_000,
+            -360_000_000,
+            200_000_000,
+        ),
     );
-    row(t, b"north polar sphere", set(600000000, 0, 324000000, 0, 0));
+    row(
+        t,
+        b"north polar sphere",
+        set(600_000_000, 0, 324_000_000, 0, 0),
+    );
 }
 
-pub(crate) fn south_polar(t: &[u32; 5401])
+pub(crate) fn south_polar(t: &Table)
     requires { ⌜ IsTable (now t) ⌝ }
 {
     row(
         t,
         b"south polar ellipsoid",
-        set(637813700, 10000000, -324000000, 0, 600000000),
+        set(637_813_700, 10_000_000, -324_000_000, 0, 600_000_000),
     );
     row(
         t,
         b"south polar sphere",
-        set(100000000, 0, -324000000, 324000000, 0),
+        set(100_000_000, 0, -324_000_000, 324_000_000, 0),
     );
 }

@@ -1,5 +1,16 @@
 // What has been seen of one set's round trips.
 use libc::STDOUT_FILENO;
+ghost use mathlib.Core.Path.{_≡_};
+ghost use Prim.Native.Nat.{max};
+ghost use Rattle.worst_gaps.specs.Tallies.{nothing, counted, added, refusedOnce, isWithin};
+
+// Where a count stops.
+const COUNT_MOST: u64 = 1_000_000;
+
+// The bounds of demand 3: latitude in mas, longitude gap in thousandths of a mas.
+const LATITUDE_BOUND: u64 = 200;
+
+const GAP_BOUND: u64 = 200_000;
 
 // Gaps are the largest so far: latitude in mas, longitude in thousandths of a mas.
 pub(crate) struct Tally {
@@ -9,28 +20,33 @@ pub(crate) struct Tally {
     pub(crate) longitude: u64,
 }
 
-fn larger(x: u64, y: u64) -> u64 {
+fn larger(x: u64, y: u64) -> u64
+    ensures { λ r. ⌜ r ≡ max x y ⌝ }
+{
     if x < y {
         return y;
     }
     x
 }
 
-// One more; the count stops at a million.
-fn more(n: u64) -> u64 {
-    if n < 1000000 {
+// One more, up to the most.
+fn more(n: u64) -> u64
+    ensures { λ r. ⌜ r ≡ counted n ⌝ }
+{
+    if n < COUNT_MOST {
         return n + 1;
     }
-    n
+    COUNT_MOST
 }
 
-fn number(before: &[u8], n: u64) {
-    io::write_all(STDOUT_FILENO, before);
-    io::print_decimal(STDOUT_FILENO, n);
+fn text(bytes: &[u8]) {
+    io::write_all(STDOUT_FILENO, bytes);
 }
 
 impl Tally {
-    pub(crate) fn none() -> Tally {
+    pub(crate) fn none() -> Tally
+        ensures { λ r. ⌜ r ≡ nothing ⌝ }
+    {
         Tally {
             trips: 0,
             refused: 0,
@@ -40,7 +56,9 @@ impl Tally {
     }
 
     // A round trip with these gaps.
-    pub(crate) fn add(self, latitude: u64, longitude: u64) -> Tally {
+    pub(crate) fn add(self, latitude: u64, longitude: u64) -> Tally
+        ensures { λ r. ⌜ r ≡ added self latitude longitude ⌝ }
+    {
         Tally {
             trips: more(self.trips),
             refused: self.refused,
@@ -49,8 +67,10 @@ impl Tally {
         }
     }
 
-    // A position that is refused in one of the directions, or comes back out of range.
-    pub(crate) fn refuse(self) -> Tally {
+    // A position that is refused on the way there or back.
+    pub(crate) fn refuse(self) -> Tally
+        ensures { λ r. ⌜ r ≡ refusedOnce self ⌝ }
+    {
         Tally {
             trips: self.trips,
             refused: more(self.refused),
@@ -60,27 +80,29 @@ impl Tally {
     }
 
     // Whether demand 3 holds of all that was seen.
-    fn is_within_200(self) -> bool {
+    fn is_within_bounds(self) -> bool
+        ensures { λ r. ⌜ r ≡ isWithin self ⌝ }
+    {
         if self.refused != 0 {
             return false;
         }
-        if 200 < self.latitude {
+        if LATITUDE_BOUND < self.latitude {
             return false;
         }
-        self.longitude <= 200000
+        self.longitude <= GAP_BOUND
     }
 
     pub(crate) fn print(self, name: &[u8]) {
-        io::write_all(STDOUT_FILENO, name);
-        number(b": ", self.trips);
-        number(b" round trips, ", self.refused);
-        number(b" refused, worst latitude gap ", self.latitude);
-        number(b" mas, worst longitude gap ", self.longitude);
-        io::write_all(STDOUT_FILENO, b" thousandths of a mas, within 200 mas: ");
-        if self.is_within_200() {
-            io::write_all(STDOUT_FILENO, b"ok\n");
-        } else {
-            io::write_all(STDOUT_FILENO, b"off\n");
-        }
+        text(name);
+        text(b":");
+        printing::size(self.trips);
+        text(b" round trips,");
+        printing::size(self.refused);
+        text(b" refused, worst latitude gap");
+        printing::size(self.latitude);
+        text(b" mas, worst longitude gap");
+        printing::size(self.longitude);
+        text(b" thousandths of a mas, within 200 mas");
+        printing::verdict(self.is_within_bounds());
     }
 }

@@ -1,74 +1,43 @@
 // Round trips of one set: forward, then the inverse of exactly that easting and northing.
 use crate::gaps::gap;
-use crate::gaps::thousandths;
-use crate::gaps::turn_gap;
-use crate::gaps::weight;
+use crate::gaps::longitude_gap;
 use crate::positions::next;
 use crate::positions::spread;
 use crate::tally::Tally;
-use azimuthal_forward::PlaneAnswer;
 use azimuthal_forward::direction_of;
-use azimuthal_forward::forward;
 use azimuthal_inverse::GeodeticAnswer;
-use azimuthal_inverse::inverse;
 use constants::Constants;
 use constants::constants_of;
-use latitudes::AuthalicSeries;
 use latitudes::Geodetic;
 use parameters::Parameters;
-use units::are_within;
+use round_trip::there_and_back;
+use sine_table::Table;
+use units::HALF_TURN;
 ghost use mathlib.Core.Path.{_≡_};
 ghost use Prim.Native.Nat.{_≤_};
 ghost use lib.IntN.{natAbs};
 ghost use Rattle.sine_table.specs.Table.{IsTable};
 ghost use Rattle.units.specs.Units.{right-angle, half-turn};
-ghost use Rattle.parameters.specs.ParameterSet.{setRefusal};
-ghost use Rattle.latitudes.specs.Latitude.{SmallSeries};
-ghost use Rattle.constants.specs.Derived.{constantsOf};
+ghost use Rattle.constants.specs.Derived.{Prepared};
+ghost use Rattle.azimuthal_forward.specs.Answer.{nearness as nearnessOf};
+ghost use Rattle.worst_gaps.specs.Tallies.{nothing, tripOf, stepOf, runOf};
 
-// The position found beside the one put in.
-fn compared(
-    t: &[u32; 5401],
-    series: AuthalicSeries,
-    lat: Geodetic,
-    lon: i64,
-    found_lat: i64,
-    found_lon: i64,
-    seen: Tally,
-) -> Tally
-    requires { ⌜ IsTable (now t) × SmallSeries series × (natAbs (lat .0) ≤ right-angle) × (natAbs lon ≤ half-turn) ⌝ }
-{
-    if !are_within(
-        -324000000,
-        324000000,
-        found_lat,
-        -648000000,
-        648000000,
-        found_lon,
-    ) {
-        return seen.refuse();
-    }
-    let north = gap(lat.0, found_lat);
-    let turn = turn_gap(lon, found_lon);
-    seen.add(north, thousandths(turn, weight(t, series, lat)))
-}
+// Demand 3 speaks of positions at most 89° from the Equator whose nearness is at least 1,000,000,000.
+const FARTHEST_LATITUDE: u64 = 320_400_000;
+
+const LEAST_NEARNESS: i64 = 1_000_000_000;
+
+// How many positions of the sequence are tried for a set, and where it starts.
+const POSITIONS: u64 = 1_500;
+
+const FIRST: u64 = 1;
 
 // There and back.
-fn trip(
-    t: &[u32; 5401],
-    p: Parameters,
-    series: AuthalicSeries,
-    lat: Geodetic,
-    lon: i64,
-    seen: Tally,
-) -> Tally
-    requires { ⌜ IsTable (now t) × SmallSeries series × (natAbs (lat .0) ≤ right-angle) × (natAbs lon ≤ half-turn) ⌝ }
+fn trip(t: &Table, p: Parameters, k: Constants, lat: Geodetic, lon: i64, seen: Tally) -> Tally
+    requires { ⌜ Prepared (now t) p k × (natAbs (lat .0) ≤ right-angle) × (natAbs lon ≤ half-turn) ⌝ }
+    ensures { λ r. ⌜ r ≡ tripOf p lat lon seen ⌝ }
 {
-    let plane = forward(p, lat, lon);
-    let PlaneAnswer::Plane { easting, northing } = plane else {
-        return seen.refuse();
-    };
-    let back = inverse(p, easting, northing);
+    let back = there_and_back(p, lat, lon);
     let GeodeticAnswer::Position {
         latitude,
         longitude,
@@ -76,35 +45,41 @@ fn trip(
     else {
         return seen.refuse();
     };
-    compared(t, series, lat, lon, latitude.0, longitude, seen)
+    let series = k.series;
+    seen.add(
+        gap(lat.0, latitude.0),
+        longitude_gap(t, series, lat, lon, longitude),
+    )
 }
 
 // The nearness G of a position to the centre.
-fn nearness(t: &[u32; 5401], p: Parameters, k: Constants, lat: Geodetic, lon: i64) -> i64
-    requires { ⌜ IsTable (now t) × (setRefusal p ≡ 0) × (k ≡ constantsOf p) × (natAbs (lat .0) ≤ right-angle) × (natAbs lon ≤ half-turn) ⌝ }
+fn nearness(t: &Table, p: Parameters, k: Constants, lat: Geodetic, lon: i64) -> i64
+    requires { ⌜ Prepared (now t) p k × (natAbs (lat .0) ≤ right-angle) × (natAbs lon ≤ half-turn) ⌝ }
+    ensures { λ r. ⌜ r ≡ nearnessOf p lat lon ⌝ }
 {
     direction_of(t, k, lat, lon - p.lon0).g
 }
 
-// There and back for a position at most 89° from the Equator, if its nearness is at least 1,000,000,000.
-fn step(t: &[u32; 5401], p: Parameters, k: Constants, s: u64, seen: Tally) -> Tally
-    requires { ⌜ IsTable (now t) × (setRefusal p ≡ 0) × (k ≡ constantsOf p) ⌝ }
+// There and back for a position of the sequence, if it is near enough.
+fn step(t: &Table, p: Parameters, k: Constants, s: u64, seen: Tally) -> Tally
+    requires { ⌜ Prepared (now t) p k ⌝ }
+    ensures { λ r. ⌜ r ≡ stepOf p s seen ⌝ }
 {
-    let lat = Geodetic(spread(s, 320400000));
-    let lon = spread(next(s), 648000000);
-    if nearness(t, p, k, lat, lon) < 1000000000 {
+    let lat = Geodetic(spread(s, FARTHEST_LATITUDE));
+    let lon = spread(next(s), HALF_TURN);
+    if nearness(t, p, k, lat, lon) < LEAST_NEARNESS {
         return seen;
     }
-    let series = k.series;
-    trip(t, p, series, lat, lon, seen)
+    trip(t, p, k, lat, lon, seen)
 }
 
 // So many positions of the sequence.
-fn run(t: &[u32; 5401], p: Parameters, k: Constants, count: u64) -> Tally
-    requires { ⌜ IsTable (now t) × (setRefusal p ≡ 0) × (k ≡ constantsOf p) ⌝ }
+fn run(t: &Table, p: Parameters, k: Constants, count: u64) -> Tally
+    requires { ⌜ Prepared (now t) p k ⌝ }
+    ensures { λ r. ⌜ r ≡ runOf p count 1 nothing ⌝ }
 {
     let mut seen = Tally::none();
-    let mut s = 1;
+    let mut s = FIRST;
     let mut i = 0;
     while i < count {
         seen = step(t, p, k, s, seen);
@@ -115,7 +90,7 @@ fn run(t: &[u32; 5401], p: Parameters, k: Constants, count: u64) -> Tally
 }
 
 // One line for a set; one that is not accepted has no round trip.
-pub(crate) fn row(t: &[u32; 5401], name: &[u8], p: Parameters)
+pub(crate) fn row(t: &Table, name: &[u8], p: Parameters)
     requires { ⌜ IsTable (now t) ⌝ }
 {
     let refusal = p.refusal();
@@ -124,5 +99,5 @@ pub(crate) fn row(t: &[u32; 5401], name: &[u8], p: Parameters)
         return;
     }
     let k = constants_of(t, p);
-    run(t, p, k, 1500).print(name);
+    run(t, p, k, POSITIONS).print(name);
 }

@@ -1,6 +1,6 @@
--- `gaps::gap` meets its contract: a difference of two half turns is in range. Assumes nothing.
+-- `gaps::gap`: the difference of two numbers of at most half a turn is in range, and is read back as it is. Assumes nothing.
 use borrow.Author.Needs.{needs}
-use Rattle.proof_kit.proofs.Range.{code, fits, read-size}
+use Rattle.proof_kit.proofs.Range.{code, fits, read-abs}
 use Rattle.proof_kit.proofs.Size.{as-size}
 use Rattle.worst_gaps.proofs.gaps.gap.Statement.{statement}
 use Rattle.worst_gaps.proofs.gaps.gap.Tie as tie
@@ -14,7 +14,7 @@ magnitude-requires c κs = search needs
 returns : tie.Need-returns
 returns c =
     let start = c .before in
-    rw (c .magnitude .ensures) (rw as-size (read-size (search (code, start .pre .0, start .pre .1) depth 40 fits 20000) tt))
+    rw (c .magnitude .ensures) (rw as-size (read-abs (search (code, start .pre .0, start .pre .1) depth 40 fits 20000) tt))
 
 pub gap-spec : {M : Type 1} → statement M
 gap-spec = tie.close (tie.spec sub-magnitude magnitude-requires returns)

@@ -1,4 +1,4 @@
--- `gaps::thousandths` meets its contract: half a turn times U fits. Assumes nothing.
+-- `gaps::thousandths`: half a turn times U, and what is added to round up, fit in 64 bits. Assumes nothing.
 use borrow.Author.Needs.{needs}
 use native.Mathlib.Nat.{mul-le-mul}
 use native.Mathlib.Omega.{arith}

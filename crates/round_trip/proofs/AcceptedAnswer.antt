@@ -27,16 +27,16 @@ plane-parts (suc n) E N E′ N′ e =
     let none : ⊥ = omega arith in
     absurd none
 
-pub record Accepted (p : Parameters) (φ : Geodetic) (lon E N : ℤ) : Type 0 where
+pub record AcceptedAnswer (p : Parameters) (φ : Geodetic) (lon E N : ℤ) : Type 0 where
   pub set-accepted : setRefusal p ≡ 0
   pub globe : on-globe φ lon ≡ true
   pub enough : near-enough (nearness p φ lon) ≡ true
   pub easting : eastingOf p φ lon ≡ E
   pub northing : northingOf p φ lon ≡ N
 
-pub accepted-forward : (p : Parameters) (φ : Geodetic) (lon E N : ℤ) → forwardOf p φ lon ≡ Plane E N → Accepted p φ lon E N
+pub accepted-answer : (p : Parameters) (φ : Geodetic) (lon E N : ℤ) → forwardOf p φ lon ≡ Plane E N → AcceptedAnswer p φ lon E N
 unfolding forwardOf forwardRefusal forwardFar
-accepted-forward p φ lon E N e =
+accepted-answer p φ lon E N e =
     let parts = plane-parts (forwardRefusal p φ lon) (eastingOf p φ lon) (northingOf p φ lon) E N e in
     let chains = both-passed (setRefusal p) (unless (on-globe φ lon) 3 (forwardFar p φ lon)) (parts .0) in
     let globe = link-passed (on-globe φ lon) 2 (chains .1) in
