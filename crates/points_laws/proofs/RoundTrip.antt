@@ -6,7 +6,7 @@ use lib.Ieee.{nan}
 use lib.ListN.{length, getD}
 use Rattle.parameters.specs.declared.Parameters.{Parameters}
 use Rattle.azimuthal_inverse.specs.Answer.{inverseOf}
-use Rattle.round_trip.specs.RoundTrip.{latitude-bound, gap-bound, RoundTripAt, CloseTo}
+use Rattle.round_trip.specs.RoundTrip.{latitude-bound, gap-bound, Conditions, CloseTo, RoundTripAt}
 use Rattle.round_trip.proofs.Demand3.{demand-3}
 use Rattle.points.specs.declared.pairs.GeodeticPair.{GeodeticPair}
 use Rattle.points.specs.declared.pairs.PlanePair.{PlanePair}
@@ -40,8 +40,15 @@ unfolding RoundTripAt
 float-round-trip p at pair near e =
     let φ = latitudeMas at in
     let lon = longitudeMas at in
-    let set = forward-passed p at pair e .set-passed in
-    let trip = demand-3 p φ lon (eastingCm pair) (northingCm pair) set (near .0) (forward-back p at pair e) (near .1) in
+    let met : Conditions p φ lon = record {
+      easting = eastingCm pair;
+      northing = northingCm pair;
+      set-accepted = forward-passed p at pair e .set-passed;
+      from-equator = near .0;
+      answered = forward-back p at pair e;
+      near-centre = near .1;
+    } in
+    let trip = demand-3 p φ lon met in
     let back : GeodeticPair = geodeticPair (trip .φ′ .0) (trip .lon′) in
     let came : inverseMetres p pair ≡ Degrees back = inverse-of-answer p at pair e ∙ ap inDegrees (trip .accepted) in
     record {
