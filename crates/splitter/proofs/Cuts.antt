@@ -1,13 +1,16 @@
--- Input cut into pieces has the lines of the whole. Assumes nothing.
+-- Input cut into pieces has the lines of the whole: what is left of a piece is the part to which the next one joins. Assumes nothing.
 use mathlib.Core.Path.{_≡_, refl, sym, ap, ap₂, _∙_}
 use mathlib.Core.Bool.{Bool, cond}
 use mathlib.Core.List.{List, [], _∷_, _++_, append-nil, append-assoc}
 use Prim.Native.Nat.{ℕ, _≤_}
 use native.Mathlib.Omega.{arith}
-use lib.ListN.{length}
+use lib.ListN.{length, length-take}
 use lib.Seq.{take-take}
+use Rattle.bytes.specs.Bytes.{indexOf}
+use Rattle.text.specs.Cutting.{upTo}
+use Rattle.requests.specs.Requests.{most-kept}
 use Rattle.lines.specs.Lines.{newline, answerLine}
-use Rattle.splitter.specs.Splitting.{endedLines, partLeft, lastLine, linesOf, answersOf, outputFrom, linesFrom, joined, most-kept, kept, toNewline}
+use Rattle.splitter.specs.Splitting.{endedLines, partLeft, lastLine, linesOf, answersOf, outputFrom, linesFrom, joined, kept}
 use Rattle.splitter.specs.Theorems.{LinesAlike, PiecesAlike, EmptyInput, EmptyLine, NothingAfter, LastLine, OnlyLine}
 use Rattle.splitter.proofs.Newlines.{by-newline, ended-along, left-along, to-end}
 use Rattle.splitter.proofs.Keeping.{answersFrom, from-alike}
@@ -71,12 +74,12 @@ nothing-after input = rw left-joined (append-nil (endedLines [] (input ++ (newli
 last-after :
     (xs : List ℕ) (b : ℕ) (bs : List ℕ) →
     partLeft [] xs ≡ [] →
-    toNewline (b ∷ bs) ≡ b ∷ bs →
+    upTo newline (b ∷ bs) ≡ b ∷ bs →
     linesOf (xs ++ (b ∷ bs)) ≡ endedLines [] xs ++ ((b ∷ bs) ∷ [])
 last-after xs b bs nothing h = ap₂ (λ (e : List (List ℕ)) (p : List ℕ). e ++ lastLine p) (ended nothing) (left nothing)
   where
-    long : length (b ∷ bs) ≤ length (toNewline (b ∷ bs))
-    long = omega (arith, ap length h)
+    long : length (b ∷ bs) ≤ indexOf newline (b ∷ bs)
+    long = omega (arith, ap length h, length-take (indexOf newline (b ∷ bs)) (b ∷ bs))
 
     ended : partLeft [] xs ≡ [] → endedLines [] (xs ++ (b ∷ bs)) ≡ endedLines [] xs
     ended e =

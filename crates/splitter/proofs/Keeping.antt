@@ -1,4 +1,5 @@
--- What the kept bytes of a part decide. Assumes nothing.
+-- What the kept bytes of a part decide: all that is answered from then on, since a line is answered by its kept bytes, and those of a part that
+-- more bytes join are decided by its own. Assumes nothing.
 use mathlib.Core.Path.{_≡_, refl, sym, ap, _∙_}
 use mathlib.Core.Bool.{Bool, cond}
 use mathlib.Core.List.{List, [], _∷_, _++_, append-nil, nil≢cons, cons≢nil}
@@ -7,8 +8,9 @@ use native.Mathlib.Nat.{not-suc-le-zero}
 use native.Mathlib.Omega.{arith}
 use lib.ListN.{length, take}
 use Rattle.lines.specs.Lines.{answerLine}
-use Rattle.lines.proofs.Long.{kept-alike}
-use Rattle.splitter.specs.Splitting.{endedLines, partLeft, lastLine, answersOf, most-kept, kept}
+use Rattle.lines.proofs.Kept.{answer-kept}
+use Rattle.requests.specs.Requests.{most-kept}
+use Rattle.splitter.specs.Splitting.{endedLines, partLeft, lastLine, answersOf, kept}
 use Rattle.splitter.proofs.Newlines.{by-newline}
 
 take-again : (n : ℕ) (p s : List ℕ) → take n (take n p ++ s) ≡ take n (p ++ s)
@@ -25,7 +27,7 @@ kept-joined p q s e = sym (kept-more p s) ∙ ap (λ (l : List ℕ). kept (l ++ 
 
 -- Lines of which the same bytes are kept have one answer.
 pub answered-alike : (p q : List ℕ) → kept p ≡ kept q → answerLine p ≡ answerLine q
-answered-alike p q e = sym (kept-alike p) ∙ ap answerLine e ∙ kept-alike q
+answered-alike p q e = sym (answer-kept p) ∙ ap answerLine e ∙ answer-kept q
 
 -- the answer of a last line that has come
 pub last-answer : (p : List ℕ) → 0 < length p → answersOf (lastLine p) ≡ answerLine p

@@ -1,5 +1,5 @@
 pub mod Newlines
-pub mod Cuts
 pub mod Keeping
-pub mod Storing
+pub mod Cuts
+pub mod Carrying
 pub mod Answering

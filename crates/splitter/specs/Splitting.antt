@@ -1,11 +1,13 @@
 -- Document 01, "The program": "A newline ends a line; the last may lack it." Input comes in pieces.
-use Prim.Native.Nat.{ℕ}
+use Prim.Native.Nat.{ℕ, _-_}
+use mathlib.Core.Path.{_≡_}
 use mathlib.Core.Bool.{cond}
 use mathlib.Core.List.{List, [], _∷_, _++_}
 use lib.Dec.{eqb}
-use lib.ListN.{take}
+use lib.ListN.{length, take, replicate}
+use Rattle.requests.specs.Requests.{most-kept}
 use Rattle.lines.specs.Lines.{newline, answerLine}
-use Rattle.splitter.specs.declared.pieces.Carried.{Carried}
+use Rattle.splitter.specs.declared.Carried.{Carried}
 
 -- Where `part` of a line has come already: the lines that a piece of input ends, and the part of a line that is left after it.
 abbrev pub endedLines : List ℕ → List ℕ → List (List ℕ)
@@ -34,10 +36,7 @@ answersOf (line ∷ lines) = answerLine line ++ answersOf lines
 abbrev pub outputOf : List ℕ → List ℕ
 outputOf input = answersOf (linesOf input)
 
--- Of a part that is left, its first 26 bytes are kept: the longest line of the paper's form has 25.
-abbrev pub most-kept : ℕ
-most-kept = 26
-
+-- Of a part that is left, the bytes are kept that decide its answer.
 abbrev pub kept : List ℕ → List ℕ
 kept part = take most-kept part
 
@@ -55,11 +54,13 @@ abbrev pub joined : List (List ℕ) → List ℕ
 joined [] = []
 joined (piece ∷ pieces) = piece ++ joined pieces
 
--- the bytes before the first newline, or all where there is none
-abbrev pub toNewline : List ℕ → List ℕ
-toNewline [] = []
-toNewline (b ∷ bs) = cond (eqb b newline) [] (b ∷ toNewline bs)
+-- how a part is carried: its kept bytes, zeros after them in the array, and their number
+unfoldable pub carriedOf : List ℕ → Carried
+carriedOf part = record { bytes = kept part ++ replicate (most-kept - length (kept part)) 0; len = length (kept part) }
 
--- the part of a line that is carried: the bytes after it in the array mean nothing
+-- the part that is carried, and what every carried value is
 abbrev pub partOf : Carried → List ℕ
 partOf c = take (c .len) (c .bytes)
+
+abbrev pub IsCarried : Carried → Type 0
+IsCarried c = c ≡ carriedOf (partOf c)

@@ -2,8 +2,9 @@
 use Prim.Native.Nat.{ℕ}
 use mathlib.Core.Path.{_≡_}
 use mathlib.Core.List.{List, [], _∷_, _++_}
+use Rattle.text.specs.Cutting.{upTo}
 use Rattle.lines.specs.Lines.{newline}
-use Rattle.splitter.specs.Splitting.{endedLines, linesOf, outputOf, outputFrom, linesFrom, joined, toNewline}
+use Rattle.splitter.specs.Splitting.{endedLines, linesOf, outputOf, outputFrom, linesFrom, joined, kept, carriedOf, partOf}
 
 -- However the input is cut into pieces, its lines are those of the whole input,
 abbrev pub LinesAlike : Type 0
@@ -29,9 +30,13 @@ NothingAfter = (input : List ℕ) → linesOf (input ++ (newline ∷ [])) ≡ en
 abbrev pub LastLine : Type 0
 LastLine =
     (input : List ℕ) (b : ℕ) (bs : List ℕ) →
-    toNewline (b ∷ bs) ≡ b ∷ bs →
+    upTo newline (b ∷ bs) ≡ b ∷ bs →
     linesOf (input ++ (newline ∷ (b ∷ bs))) ≡ endedLines [] (input ++ (newline ∷ [])) ++ ((b ∷ bs) ∷ [])
 
 -- A text without a newline is one line.
 abbrev pub OnlyLine : Type 0
-OnlyLine = (b : ℕ) (bs : List ℕ) → toNewline (b ∷ bs) ≡ b ∷ bs → linesOf (b ∷ bs) ≡ (b ∷ bs) ∷ []
+OnlyLine = (b : ℕ) (bs : List ℕ) → upTo newline (b ∷ bs) ≡ b ∷ bs → linesOf (b ∷ bs) ≡ (b ∷ bs) ∷ []
+
+-- What is carried of a part are its kept bytes.
+abbrev pub CarriedKept : Type 0
+CarriedKept = (part : List ℕ) → partOf (carriedOf part) ≡ kept part

@@ -1,21 +1,23 @@
--- `pieces::answer_carried` meets its contract. Assumes nothing.
-use borrow.Author.Needs.{needs}
+-- `splitter::answer_carried` meets its contract: the bytes that are lent are the carried part. Assumes nothing.
 use mathlib.Core.Path.{_≡_, sym}
 use Prim.Native.Nat.{_≤_}
 use native.Mathlib.Omega.{arith}
 use lib.ListN.{length}
 use lib.Seq.{length-take-le}
-use Rattle.splitter.proofs.pieces.answer_carried.Statement.{statement}
-use Rattle.splitter.proofs.pieces.answer_carried.Tie as tie
-
-within : (c : tie.After-bytes) → c .before .before .args .c .len ≤ length (c .before .before .args .c .bytes)
-within c = let size : length (c .before .before .args .c .bytes) ≡ 26 = search needs in omega arith
+use borrow.Author.Needs.{needs}
+use Rattle.requests.specs.Requests.{most-kept}
+use Rattle.splitter.proofs.Carrying.{len-most}
+use Rattle.splitter.proofs.answer_carried.Statement.{statement}
+use Rattle.splitter.proofs.answer_carried.Tie as tie
 
 array-share-prefix-bytes : tie.Need-array-share-prefix-bytes
-array-share-prefix-bytes c = within c
+array-share-prefix-bytes c =
+    let start = c .before .before in
+    let array : length (start .args .c .bytes) ≡ most-kept = search needs in
+    omega (arith, len-most (start .pre .1))
 
 slice-aggregate-answer-at : tie.Need-slice-aggregate-answer-at
-slice-aggregate-answer-at c = sym (length-take-le _ _ (within (c .before)))
+slice-aggregate-answer-at c = sym (length-take-le _ _ (array-share-prefix-bytes (c .before)))
 
 answer-at-requires : tie.Need-answer-at-requires
 answer-at-requires c κs = search needs
