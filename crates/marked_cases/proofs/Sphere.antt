@@ -1,4 +1,5 @@
--- The marked case of the sphere, step by step: no root is computed, each is shown to be its number by two squares.
+-- The marked case of the sphere, step by step. On the sphere β is φ, so J, D and the cosine of the Equator are U and RD is a; 90° east u and G are U and
+-- H is U/√2. No root is computed, each is shown to be its number by two squares.
 -- Assumes nothing.
 use mathlib.Core.Path.{_≡_, refl, ap, ap₂, _∙_}
 use mathlib.Core.Bool.{true}

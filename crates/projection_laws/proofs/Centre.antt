@@ -1,11 +1,13 @@
 -- The centre, the pole of a polar set and the point opposite to the centre.
--- Where u and w are 0 and the position is near enough, it goes to the false origin. At the centre u is 0 as sine(0) is, w is C0·S0 − S0·C0, and G is 2U but for what sine² + cosine² lacks.
+-- Where u and w are 0 and the position is near enough, it goes to the false origin. At the centre u is 0 as sine(0) is, w is C0·S0 − S0·C0, and G is 2U but
+-- for what sine² + cosine² lacks. At a pole C0 is 0, so the longitude falls out. At the opposite point b and v have the other sign, so G is as much below U
+-- as it is above it at the centre. The way back from the false origin is an answer of its own.
 -- Assumes nothing.
 use mathlib.Core.Path.{_≡_, refl, ap, ap₂, _∙_}
 use mathlib.Core.Bool.{true}
 use mathlib.Core.List.{[], _∷_}
 use mathlib.Core.Logic.{_⊎_, inl, inr}
-use Prim.Native.Nat.{ℕ, suc, _*_, _<_, _≤_}
+use Prim.Native.Nat.{ℕ, suc, _-_, _*_, _<_, _≤_}
 use native.Mathlib.Nat.{le-trans}
 use lib.Dec.{lit<, lit≤}
 use lib.IntN.{ℤ, pos, negsuc, negℤ, natAbs, _+ℤ_, _-ℤ_, _*ℤ_, +ℤ-idr, +ℤ-invr, *ℤ-zero, zero-*ℤ}
@@ -18,7 +20,7 @@ use Rattle.integers.specs.Near.{near}
 use Rattle.integers.proofs.Rounding.{near-zero, near-whole, near-mono, near-odd}
 use Rattle.units.specs.Units.{unit, right-angle, half-turn, U}
 use Rattle.trig.specs.Sine.{sine, cosine}
-use Rattle.trig.proofs.Interface.{sine-zero, sine-right, sine-odd, cosine-zero, cosine-right, cosine-even, cosine-quarter-turn, near-circle}
+use Rattle.trig.proofs.Interface.{A, sine-zero, sine-right, sine-odd, cosine-zero, cosine-right, cosine-even, cosine-quarter-turn, near-circle}
 use Rattle.latitudes.specs.declared.Geodetic.{Geodetic}
 use Rattle.parameters.specs.declared.Parameters.{Parameters}
 use Rattle.constants.specs.declared.Constants.{Constants}
@@ -72,21 +74,22 @@ module _ (p : Parameters) (ok : setRefusal p ≡ 0) (φ : Geodetic) (lon : ℤ) 
   to-refused-4 h =
       forward-too-far p φ lon ok (on-globe-by φ lon φ-size lon-size) (not-near-enough h)
 
--- ---- sine² + cosine², rounded: at least U − 25
+-- ---- sine² + cosine², rounded: at least U − A
 
-circle-least : (t : ℤ) → pos 999_999_975 ≤ℤ near (sine t *ℤ sine t +ℤ cosine t *ℤ cosine t) unit
+circle-least : (t : ℤ) → pos (unit - A) ≤ℤ near (sine t *ℤ sine t +ℤ cosine t *ℤ cosine t) unit
 circle-least t =
-    rw (near-whole (pos 999_999_975) unit some) at (near-mono (pos 999_999_975 *ℤ pos unit) (sine t *ℤ sine t +ℤ cosine t *ℤ cosine t) unit some (least (sine t *ℤ sine t +ℤ cosine t *ℤ cosine t) (near-circle t)))
+    let squares = sine t *ℤ sine t +ℤ cosine t *ℤ cosine t in
+    rw (near-whole (pos (unit - A)) unit some) at (near-mono (pos (unit - A) *ℤ pos unit) squares unit some (least squares (near-circle t)))
   where
-    least : (z : ℤ) → natAbs (z -ℤ pos (unit * unit)) ≤ 25 * unit → pos (999_999_975 * unit) ≤ℤ z
+    least : (z : ℤ) → natAbs (z -ℤ pos (unit * unit)) ≤ A * unit → pos ((unit - A) * unit) ≤ℤ z
     least z h = omega (order, natAbs-parts (z -ℤ pos (unit * unit)), parts-- z (pos (unit * unit)))
 
 -- ---- the centre: φ = φ0 and Δ = 0, for the constants of any set
 
-above : (z : ℤ) → pos 999_999_975 ≤ℤ z → pos 20_000_000 ≤ℤ (U +ℤ z)
+above : (z : ℤ) → pos (unit - A) ≤ℤ z → pos 20_000_000 ≤ℤ (U +ℤ z)
 above z h = omega (order, parts-+ U z)
 
-below : (z : ℤ) → pos 999_999_975 ≤ℤ z → (U +ℤ negℤ z) <ℤ pos 20_000_000
+below : (z : ℤ) → pos (unit - A) ≤ℤ z → (U +ℤ negℤ z) <ℤ pos 20_000_000
 below z h = omega (order, parts-+ U (negℤ z), P-neg z, N-neg z)
 
 nothing-left : {z : ℤ} → z ≡ pos 0 → near z unit ≡ pos 0
@@ -106,7 +109,7 @@ module _ (p : Parameters) where
   C = C0 (p .e2) φ0
 
   -- S0² + C0², rounded
-  radius-least : pos 999_999_975 ≤ℤ near (S *ℤ S +ℤ C *ℤ C) unit
+  radius-least : pos (unit - A) ≤ℤ near (S *ℤ S +ℤ C *ℤ C) unit
   unfolding S C S0 C0
   radius-least = circle-least (β0 (p .e2) φ0 .0)
 
@@ -228,9 +231,10 @@ module _ (p : Parameters) (ok : setRefusal p ≡ 0) where
   pub centre-position : inverseOf p (p .«false_easting») (p .«false_northing») ≡ Position (p .lat0) (p .lon0)
   unfolding at-origin same within
   centre-position =
-      inverse-on-plane p (p .«false_easting») (p .«false_northing») ok
-      (on-plane-by (p .«false_easting») (p .«false_northing») (le-trans (accepted p ok .easting-size) (lit≤ tt)) (le-trans (accepted p ok .northing-size) (lit≤ tt)))
-      ∙ from-origin p (constantsOf p) (p .«false_easting» -ℤ p .«false_easting») (p .«false_northing» -ℤ p .«false_northing») (rw (none (p .«false_easting»), none (p .«false_northing»)) refl)
+      let E = p .«false_easting» in
+      let N = p .«false_northing» in
+      inverse-on-plane p E N ok (on-plane-by E N (le-trans (accepted p ok .easting-size) (lit≤ tt)) (le-trans (accepted p ok .northing-size) (lit≤ tt)))
+      ∙ from-origin p (constantsOf p) (E -ℤ E) (N -ℤ N) (rw (none E, none N) refl)
 
   pub pole-plane : polar (p .lat0) ≡ true → (lon : ℤ) → natAbs lon ≤ half-turn → forwardOf p (p .lat0) lon ≡ Plane (p .«false_easting») (p .«false_northing»)
   unfolding k φ0

@@ -1,4 +1,4 @@
--- The edge of the map: at dE = 2·RD and dN = 0, X is 2U and K is 2U, so G is 0.
+-- The edge of the map: at dE = 2·RD and dN = 0, X is 2U and K is 2U, so G is 0 and the point is too far, though it passes the test of the map.
 -- Assumes nothing.
 use mathlib.Core.Path.{_≡_, refl, sym, ap, ap₂, _∙_, subst}
 use mathlib.Core.Bool.{true, false}
@@ -14,7 +14,7 @@ use Rattle.proof_kit.proofs.Size.{abs-mul-le, abs-add-le}
 use Rattle.proof_kit.proofs.Order.{order, lt-leZ}
 use Rattle.integers.specs.Near.{near}
 use Rattle.integers.proofs.Rounding.{near-zero, near-whole}
-use Rattle.units.specs.Units.{unit, U}
+use Rattle.units.specs.Units.{unit, U, plane-limit}
 use Rattle.parameters.specs.declared.Parameters.{Parameters}
 use Rattle.constants.specs.declared.Constants.{Constants}
 use Rattle.azimuthal_inverse.specs.declared.GeodeticAnswer.the-variants.{Refused}
@@ -45,7 +45,8 @@ module _ (k : Constants) (ok : Sound k) where
   edge-on-map : on-map k (pos 2 *ℤ k .rd) (pos 0) ≡ true
   unfolding on-map
   edge-on-map =
-      rw (twice (k .rd) (pos 2 *ℤ k .rd) (ok .rd-between .natural) (abs-mul-le (pos 2) (k .rd) (le-refl 2) (le-refl (natAbs (k .rd)))), twice (k .rn) (pos 0) (ok .rn-between .natural) (omega arith)) refl
+      let east = abs-mul-le (pos 2) (k .rd) (le-refl 2) (le-refl (natAbs (k .rd))) in
+      rw (twice (k .rd) (pos 2 *ℤ k .rd) (ok .rd-between .natural) east, twice (k .rn) (pos 0) (ok .rn-between .natural) (omega arith)) refl
 
   edge-X : X k (pos 2 *ℤ k .rd) ≡ pos 2 *ℤ U
   unfolding X
@@ -81,12 +82,13 @@ module _ (p : Parameters) (ok : setRefusal p ≡ 0) where
   E : ℤ
   E = p .«false_easting» +ℤ pos 2 *ℤ RD p
 
-  E-size : natAbs E ≤ 5_000_000_000
+  E-size : natAbs E ≤ plane-limit
   unfolding E constantsOf
   E-size =
-      le-trans (abs-add-le (p .«false_easting») (pos 2 *ℤ RD p) (accepted p ok .easting-size) (abs-mul-le (pos 2) (RD p) (le-refl 2) (sound p ok .rd-between .most))) (lit≤ tt)
+      let east = abs-mul-le (pos 2) (RD p) (le-refl 2) (sound p ok .rd-between .most) in
+      le-trans (abs-add-le (p .«false_easting») (pos 2 *ℤ RD p) (accepted p ok .easting-size) east) (lit≤ tt)
 
-  N-size : natAbs (p .«false_northing») ≤ 5_000_000_000
+  N-size : natAbs (p .«false_northing») ≤ plane-limit
   N-size = le-trans (accepted p ok .northing-size) (lit≤ tt)
 
   edge-dE : E -ℤ p .«false_easting» ≡ pos 2 *ℤ RD p
@@ -96,9 +98,11 @@ module _ (p : Parameters) (ok : setRefusal p ≡ 0) where
   edge-refused : inverseOf p E (p .«false_northing») ≡ Refused 4
   unfolding constantsOf
   edge-refused =
+      let k = constantsOf p in
+      let radii = sound p ok in
       inverse-on-plane p E (p .«false_northing») ok (on-plane-by E (p .«false_northing») E-size N-size)
-      ∙ ap₂ (answerFrom p (constantsOf p)) edge-dE (+ℤ-invr (p .«false_northing»))
-      ∙ from-too-far p (constantsOf p) (pos 2 *ℤ RD p) (pos 0) (edge-not-origin (constantsOf p) (sound p ok)) (edge-on-map (constantsOf p) (sound p ok)) (edge-too-far (constantsOf p) (sound p ok))
+      ∙ ap₂ (answerFrom p k) edge-dE (+ℤ-invr (p .«false_northing»))
+      ∙ from-too-far p k (pos 2 *ℤ RD p) (pos 0) (edge-not-origin k radii) (edge-on-map k radii) (edge-too-far k radii)
 
 pub edge-inverse : EdgeInverse
 unfolding constantsOf E

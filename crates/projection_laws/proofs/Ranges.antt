@@ -1,4 +1,5 @@
--- The range of the inverse's answers, and the forward answers at −180° and 180°, which are a full turn apart.
+-- The range of the inverse's answers: a latitude is the centre's or one that was searched for from −90° to 90°, a longitude is the centre's or was brought
+-- inside its limits. The forward answers at −180° and 180° are alike, as these are a full turn apart, which sine and cosine do not see.
 -- Assumes nothing.
 use mathlib.Core.Path.{_≡_, refl, sym, ap, _∙_, subst}
 use mathlib.Core.Bool.{Bool, true, false, cond}
@@ -99,7 +100,10 @@ position-in-range p E N φ lon e = subst (λ (x : GeodeticAnswer). InRange (geod
 
 cosine-full-turn : (t : ℤ) → cosine (t +ℤ pos full-turn) ≡ cosine t
 cosine-full-turn t =
-    sym (sine-quarter-turn (t +ℤ pos full-turn)) ∙ ap sine (swapped t (pos full-turn) (pos right-angle)) ∙ sine-full-turn (t +ℤ pos right-angle) ∙ sine-quarter-turn t
+    sym (sine-quarter-turn (t +ℤ pos full-turn))
+    ∙ ap sine (swapped t (pos full-turn) (pos right-angle))
+    ∙ sine-full-turn (t +ℤ pos right-angle)
+    ∙ sine-quarter-turn t
   where
     swapped : (x y z : ℤ) → x +ℤ y +ℤ z ≡ x +ℤ z +ℤ y
     swapped x y z = ring (x ∷ y ∷ z ∷ []) (search quote depth 40 fits 20000) tt

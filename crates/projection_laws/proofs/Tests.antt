@@ -1,4 +1,5 @@
--- When the tests of the steps are passed: of sizes, of a position, of a plane point and of nearness.
+-- When the tests of the steps are passed: of sizes, of a position, of a plane point and of nearness. Each is a pair of comparisons, and a comparison that
+-- holds gives true.
 -- Assumes nothing.
 use mathlib.Core.Path.{_≡_, refl, ap}
 use mathlib.Core.Bool.{Bool, true, false, _&&_}
@@ -6,7 +7,7 @@ use Prim.Native.Nat.{ℕ, _≤_}
 use lib.IntN.{ℤ, pos, negℤ, natAbs}
 use lib.Signed.{_≤ℤ_, _<ℤ_}
 use Rattle.proof_kit.proofs.Order.{abs-lower, abs-upper, le-leZ, lt-leZ}
-use Rattle.units.specs.Units.{right-angle, half-turn}
+use Rattle.units.specs.Units.{right-angle, half-turn, plane-limit}
 use Rattle.latitudes.specs.declared.Geodetic.{Geodetic}
 use Rattle.units.specs.Spans.{within, on-plane}
 use Rattle.azimuthal_forward.specs.Steps.{near-enough}
@@ -28,9 +29,9 @@ pub on-globe-by : (φ : Geodetic) (lon : ℤ) → natAbs (φ .0) ≤ right-angle
 unfolding on-globe
 on-globe-by φ lon h l = rw (size-within right-angle (φ .0) h, size-within half-turn lon l)
 
-pub on-plane-by : (E N : ℤ) → natAbs E ≤ 5_000_000_000 → natAbs N ≤ 5_000_000_000 → on-plane E N ≡ true
+pub on-plane-by : (E N : ℤ) → natAbs E ≤ plane-limit → natAbs N ≤ plane-limit → on-plane E N ≡ true
 unfolding on-plane
-on-plane-by E N h l = rw (size-within 5_000_000_000 E h, size-within 5_000_000_000 N l)
+on-plane-by E N h l = rw (size-within plane-limit E h, size-within plane-limit N l)
 
 pub near-enough-by : {g : ℤ} → pos 20_000_000 ≤ℤ g → near-enough g ≡ true
 unfolding near-enough

@@ -1,5 +1,5 @@
--- The witnesses: a concrete set and input for each refusal and for an accepted answer, in each direction.
--- No root is computed: what is beyond the map is beyond twice the greatest RD of any set.
+-- The witnesses: a concrete set and input for each refusal and for an accepted answer, in each direction. The tests that decide them are computed, but for
+-- the one of the map: what is beyond it is beyond twice the greatest RD of any set, so no root is computed.
 -- Assumes nothing.
 use mathlib.Core.Path.{_≡_, refl, ap, _∙_, subst}
 use mathlib.Core.Bool.{false}

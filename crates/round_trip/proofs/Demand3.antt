@@ -2,7 +2,7 @@
 -- The forward answer gives the shifts, the vectors' half of the proof shows that the inverse accepts them, and the angles' half bounds its answer.
 -- Assumes nothing.
 use mathlib.Core.Path.{_≡_, refl, sym, ap, ap₂, _∙_, subst}
-use mathlib.Core.Bool.{Bool, true, false, _&&_}
+use mathlib.Core.Bool.{true, _&&_}
 use mathlib.Core.List.{[], _∷_}
 use Prim.Native.Nat.{ℕ, suc, _*_, _<_, _≤_}
 use native.Mathlib.Nat.{le-trans, le-of-mul-le-mul-left, mul-le-mul-left}
@@ -11,7 +11,7 @@ use lib.Dec.{lit<, lit≤}
 use lib.IntN.{ℤ, pos, negsuc, negℤ, natAbs, _+ℤ_, _-ℤ_, _*ℤ_}
 use lib.Signed.{_≤ℤ_}
 use Rattle.proof_kit.proofs.Laws.{P-neg, N-neg}
-use Rattle.proof_kit.proofs.Order.{order, pos-≤, pos-≤ℤ, ≤ℤ-trans, le-leZ}
+use Rattle.proof_kit.proofs.Order.{order, pos-≤, pos-≤ℤ, le-leZ}
 use Rattle.proof_kit.proofs.Ring.{ring, quote}
 use Rattle.constants.specs.declared.Constants.{Constants}
 use Rattle.latitudes.specs.declared.Geodetic.{Geodetic}
@@ -30,7 +30,7 @@ use Rattle.constants.proofs.ConstantsLaws.{sound}
 use Rattle.azimuthal_inverse.proofs.AnswerLaws.{inverse-on-plane}
 use Rattle.round_trip.specs.RoundTrip.{longitudeGap, farthest-latitude, latitude-bound as latitude-limit, gap-bound}
 use Rattle.round_trip.specs.RoundTrip.{sharp-latitude-bound, sharp-gap-halves}
-use Rattle.round_trip.specs.RoundTrip.{Conditions, CloseTo, RoundTripAt, SharpRoundTrip, Demand3, thereAndBack, MeetsDemand3}
+use Rattle.round_trip.specs.RoundTrip.{CloseTo, RoundTripAt, SharpRoundTrip, Demand3, thereAndBack, MeetsDemand3}
 use Rattle.round_trip.proofs.Numerals.{unit}
 use Rattle.round_trip.proofs.AcceptedAnswer.{AcceptedAnswer, accepted-answer}
 use Rattle.round_trip.proofs.Limits.{circle-of, within-limits, forward-on-plane}

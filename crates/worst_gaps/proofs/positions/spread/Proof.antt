@@ -1,7 +1,6 @@
 -- `positions::spread`: a remainder by most + 1 is at most `most`, so it has room for a sign; what `signed` gives is returned as it is. Assumes nothing.
 use borrow.Author.Needs.{needs}
 use mathlib.Core.Path.{_∙_}
-use Prim.Native.Nat.{ℕ, _+_, _%_, _<_, _≤_}
 use native.Mathlib.Omega.{arith}
 use Rattle.proof_kit.proofs.Range.{returned}
 use Rattle.worst_gaps.proofs.Sequence.{remainder}

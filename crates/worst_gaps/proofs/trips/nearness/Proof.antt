@@ -1,7 +1,6 @@
 -- `trips::nearness`: the set is accepted, so its constants and the longitude difference are as small as `direction_of` requires, and the G of the direction
 -- is the nearness. Assumes nothing.
-use borrow.Author.Needs.{needs}
-use mathlib.Core.Path.{_≡_, ap, ap₂, _∙_, subst}
+use mathlib.Core.Path.{_≡_, ap, _∙_}
 use Prim.Native.Nat.{_≤_}
 use lib.Dec.{lit<}
 use lib.IntN.{ℤ, natAbs, _-ℤ_}
@@ -9,10 +8,10 @@ use mir.Syntax.{w64}
 use mir.Val.{toZ, ofZ}
 use Rattle.proof_kit.proofs.Range.{code, fits, read, read-size, kept}
 use Rattle.proof_kit.proofs.Size.{as-size}
+use Rattle.units.specs.Units.{half-turn}
 use Rattle.constants.specs.declared.Constants.{Constants}
 use Rattle.parameters.proofs.AcceptedSet.{accepted}
-use Rattle.constants.specs.Derived.{constantsOf}
-use Rattle.constants.proofs.ConstantsLaws.{Sound, sound, sound-as}
+use Rattle.constants.proofs.ConstantsLaws.{Sound, sound-as}
 use Rattle.azimuthal_forward.specs.declared.Direction.{Direction}
 use Rattle.azimuthal_forward.specs.Steps.{G, directionOf}
 use Rattle.azimuthal_forward.specs.Answer.{nearness}
@@ -27,7 +26,7 @@ start-at-direction-of c = c .before .before .before
 constants-sound : (c : tie.Start) → Sound (c .args .k)
 constants-sound c = sound-as (c .args .p) (c .args .k) (c .pre .0 .accepted) (c .pre .0 .constants)
 
-lon0-size : (c : tie.Start) → natAbs (c .args .p .lon0) ≤ 648_000_000
+lon0-size : (c : tie.Start) → natAbs (c .args .p .lon0) ≤ half-turn
 lon0-size c = accepted (c .args .p) (c .pre .0 .accepted) .lon0-size
 
 sub-direction-of : tie.Need-sub-direction-of
@@ -47,7 +46,8 @@ direction-of-requires c κs =
     )
 
 -- the longitude difference that was handed down
-difference-read : (c : tie.Start) → toZ w64 (ofZ w64 (toZ w64 (ofZ w64 (c .args .lon)) -ℤ toZ w64 (ofZ w64 (c .args .p .lon0)))) ≡ c .args .lon -ℤ c .args .p .lon0
+difference-read : (c : tie.Start) →
+    toZ w64 (ofZ w64 (toZ w64 (ofZ w64 (c .args .lon)) -ℤ toZ w64 (ofZ w64 (c .args .p .lon0)))) ≡ c .args .lon -ℤ c .args .p .lon0
 difference-read c = read (search (code, c .pre .2, lon0-size c) depth 40 fits 20000) tt
 
 returns : tie.Need-returns

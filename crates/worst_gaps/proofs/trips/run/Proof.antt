@@ -18,7 +18,8 @@ abbrev μ-loop : tie.MeasureT-loop
 μ-loop t p k count seen₀ s₀ i₀ seen s i = count - i
 
 -- a turn takes one position off what is left, and with none left the run ends
-turn : (p : Parameters) (count i s : ℕ) (seen : Tally) → i < count → runOf p (count - (i + 1)) (nextOf (nextOf s)) (stepOf p s seen) ≡ runOf p (count - i) s seen
+turn : (p : Parameters) (count i s : ℕ) (seen : Tally) → i < count →
+    runOf p (count - (i + 1)) (nextOf (nextOf s)) (stepOf p s seen) ≡ runOf p (count - i) s seen
 unfolding runOf
 turn p count i s seen h =
     let left : suc (count - (i + 1)) ≡ count - i = omega arith in
@@ -61,10 +62,13 @@ loop-again : tie.Need-loop-again Inv-loop μ-loop
 loop-again c =
     let at = at-next2 c in
     let start = at .before .before in
-    let test : at .loop .i < start .args .count = omega arith in (
+    let p = start .args .p in
+    let count = start .args .count in
+    let test : at .loop .i < count = omega arith in
+    let next : c .next2 .result ≡ nextOf (nextOf (at .loop .s)) = c .next2 .ensures ∙ ap nextOf (c .before .next .ensures) in (
       search needs,
-      ap₂ (runOf (start .args .p) (start .args .count - (at .loop .i + 1))) (c .next2 .ensures ∙ ap nextOf (c .before .next .ensures)) (c .before .before .step .ensures)
-          ∙ turn (start .args .p) (start .args .count) (at .loop .i) (at .loop .s) (at .loop .seen) test
+      ap₂ (runOf p (count - (at .loop .i + 1))) next (c .before .before .step .ensures)
+          ∙ turn p count (at .loop .i) (at .loop .s) (at .loop .seen) test
           ∙ at .loop .inv .1,
     )
 

@@ -31,10 +31,15 @@ there-and-back-at-back c = c .before .before
 abbrev start-at-back : tie.After-back → tie.Start
 start-at-back c = there-and-back-at-back c .before
 
-answer-is : (c : tie.After-there-and-back) → c .there-and-back .result ≡ thereAndBack (c .before .args .p) (forwardOf (c .before .args .p) (c .before .args .lat) (c .before .args .lon))
+-- as the definitions have it
+abbrev answer : tie.Start → GeodeticAnswer
+answer c = thereAndBack (c .args .p) (forwardOf (c .args .p) (c .args .lat) (c .args .lon))
+
+answer-is : (c : tie.After-there-and-back) → c .there-and-back .result ≡ answer (c .before)
 answer-is c =
     let start = c .before in
-    c .there-and-back .ensures .0 ∙ ap (λ (lon : ℤ). thereAndBack (start .args .p) (forwardOf (start .args .p) (start .args .lat) lon)) (toZ-ofZ (start .fits .lon))
+    c .there-and-back .ensures .0
+    ∙ ap (λ (lon : ℤ). thereAndBack (start .args .p) (forwardOf (start .args .p) (start .args .lat) lon)) (toZ-ofZ (start .fits .lon))
 
 -- ---- a position that came back
 
@@ -44,9 +49,7 @@ latitude c = c .back .given .0 .0
 abbrev longitude : tie.After-back → ℤ
 longitude c = c .back .given .0 .1 .0
 
-came-back : (c : tie.After-back) →
-    thereAndBack (start-at-back c .args .p) (forwardOf (start-at-back c .args .p) (start-at-back c .args .lat) (start-at-back c .args .lon))
-    ≡ Position (latitude c) (longitude c)
+came-back : (c : tie.After-back) → answer (start-at-back c) ≡ Position (latitude c) (longitude c)
 came-back c = sym (answer-is (there-and-back-at-back c)) ∙ c .back .given .1
 
 on-globe : (c : tie.After-back) → (natAbs (latitude c .0) ≤ right-angle) × (natAbs (longitude c) ≤ half-turn)
