@@ -102,7 +102,7 @@ InverseRange =
     (p : Parameters) (E N : ℤ) →
     (natAbs (geodetic-told (inverseOf p E N) .first) ≤ right-angle)
     × (negℤ (pos half-turn) <ℤ geodetic-told (inverseOf p E N) .second)
-    × (geodetic-told (inverseOf p E N) .second <ℤ pos half-turn)
+    × (geodetic-told (inverseOf p E N) .second ≤ℤ pos half-turn)
 
 -- "−180° and 180° forward alike"
 abbrev pub HalfTurnAlike : Type 0
