@@ -3,17 +3,20 @@ use constants::Constants;
 use constants::constants_of;
 use libc::STDIN_FILENO;
 use libc::STDOUT_FILENO;
+use lines::ANSWER_MOST;
 use parameters::Parameters;
-use splitter::pieces::Carried;
-use splitter::pieces::answer_last;
-use splitter::pieces::answer_piece;
-use splitter::pieces::nothing_carried;
-ghost use mathlib.Core.Path.{_≡_};
-ghost use Prim.Native.Nat.{_≤_};
-ghost use lib.ListN.{length};
-ghost use Rattle.sine_table.specs.Table.{IsTable};
+use sine_table::Table;
+use splitter::Carried;
+use splitter::answer_last;
+use splitter::answer_piece;
+use splitter::nothing_carried;
 ghost use Rattle.parameters.specs.ParameterSet.{etrsLaea};
-ghost use Rattle.constants.specs.Derived.{constantsOf};
+ghost use Rattle.constants.specs.Derived.{Prepared};
+ghost use Rattle.splitter.specs.Splitting.{IsCarried};
+ghost use Rattle.laea.specs.Buffers.{HasRoom};
+
+// The bytes that are read at once; `io::large_buffer` has room for the answers to so many.
+const PIECE_MOST: usize = 2_048;
 
 // The part of a line that is carried to the next turn, and whether there is one.
 struct Turn {
@@ -24,11 +27,11 @@ struct Turn {
 // Reads once, so that a line typed at a terminal is answered at once, and answers the lines that
 // have come to their end. A failed read ends the input. Where the answers cannot be written it
 // stops, with nothing carried.
-fn answer_some(t: &[u32; 5401], k: Constants, c: Carried, out: &mut [u8]) -> Turn
-    requires { ⌜ IsTable (now t) × (k ≡ constantsOf etrsLaea) × (c .len ≤ 26) × (length (now out) ≡ 65536) ⌝ }
-    ensures { λ r. ⌜ r .carried .len ≤ 26 ⌝ }
+fn answer_some(t: &Table, k: Constants, c: Carried, out: &mut [u8]) -> Turn
+    requires { ⌜ Prepared (now t) etrsLaea k × IsCarried c × HasRoom (now out) ⌝ }
+    ensures { λ r. ⌜ IsCarried (r .carried) ⌝ }
 {
-    let mut piece = [0u8; 2048];
+    let mut piece = [0u8; PIECE_MOST];
     let got = libc::read(STDIN_FILENO, &mut piece);
     if got <= 0 {
         return Turn {
@@ -54,9 +57,9 @@ fn answer_some(t: &[u32; 5401], k: Constants, c: Carried, out: &mut [u8]) -> Tur
 
 // Answers the input's lines and gives what is left of it. A proved loop has to end, and nothing says
 // that the input does, so the turns are counted down from a number that no run uses up.
-fn answer_all(t: &[u32; 5401], k: Constants, out: &mut [u8]) -> Carried
-    requires { ⌜ IsTable (now t) × (k ≡ constantsOf etrsLaea) × (length (now out) ≡ 65536) ⌝ }
-    ensures { λ r. ⌜ r .len ≤ 26 ⌝ }
+fn answer_all(t: &Table, k: Constants, out: &mut [u8]) -> Carried
+    requires { ⌜ Prepared (now t) etrsLaea k × HasRoom (now out) ⌝ }
+    ensures { λ r. ⌜ IsCarried r ⌝ }
 {
     let mut carried = nothing_carried();
     let mut more = true;
@@ -71,10 +74,10 @@ fn answer_all(t: &[u32; 5401], k: Constants, out: &mut [u8]) -> Carried
 }
 
 // Answers a last line that lacks its newline.
-fn answer_rest(t: &[u32; 5401], k: Constants, c: Carried)
-    requires { ⌜ IsTable (now t) × (k ≡ constantsOf etrsLaea) × (c .len ≤ 26) ⌝ }
+fn answer_rest(t: &Table, k: Constants, c: Carried)
+    requires { ⌜ Prepared (now t) etrsLaea k × IsCarried c ⌝ }
 {
-    let mut out = [0u8; 32];
+    let mut out = [0u8; ANSWER_MOST];
     let n = answer_last(t, k, c, &mut out);
     io::write_all(STDOUT_FILENO, &out[..n]);
 }

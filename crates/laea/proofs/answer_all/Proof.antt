@@ -1,14 +1,17 @@
--- `laea::answer_all` is safe and ends. The measure is the number of turns that are left. Assumes nothing.
+-- `laea::answer_all` meets its contract and ends: each turn gives a carried value for the next. The measure is the number of turns that are left.
+-- Assumes nothing.
 use borrow.Author.Needs.{needs}
-use mathlib.Core.Path.{_≡_}
-use Prim.Native.Nat.{_≤_}
+use mathlib.Core.Path.{_≡_, refl}
+use mathlib.Core.List.{[]}
 use native.Mathlib.Omega.{arith}
 use lib.ListN.{length}
+use Rattle.splitter.specs.Splitting.{IsCarried}
+use Rattle.splitter.proofs.Carrying.{is-carried}
 use Rattle.laea.proofs.answer_all.Statement.{statement}
 use Rattle.laea.proofs.answer_all.Tie as tie
 
 abbrev Inv-loop : tie.InvT-loop
-Inv-loop t k out₀ carried₀ more₀ turns₀ out carried more turns = (length out ≡ 65536) × (carried .len ≤ 26)
+Inv-loop t k out₀ carried₀ more₀ turns₀ out carried more turns = (length out ≡ length out₀) × IsCarried carried
 
 abbrev μ-loop : tie.MeasureT-loop
 μ-loop t k out₀ carried₀ more₀ turns₀ out carried more turns = turns
@@ -17,7 +20,7 @@ nothing-carried-requires : tie.Need-nothing-carried-requires Inv-loop μ-loop
 nothing-carried-requires c κs = search needs
 
 loop-holds : tie.Need-loop-holds Inv-loop μ-loop
-loop-holds c = search needs
+loop-holds c = (refl, is-carried [] (c .nothing-carried .ensures))
 
 answer-some-requires : tie.Need-answer-some-requires Inv-loop μ-loop
 answer-some-requires c κs = search needs

@@ -2,8 +2,8 @@
 use borrow.Author.Needs.{needs}
 use mathlib.Core.Path.{sym}
 use lib.Seq.{length-take-le}
-use Rattle.splitter.specs.Splitting.{lastLine, answersOf, partOf}
-use Rattle.splitter.proofs.Answering.{last-size, written-within}
+use Rattle.splitter.specs.Splitting.{partOf}
+use Rattle.splitter.proofs.Answering.{last-size, put-within}
 use Rattle.laea.proofs.answer_rest.Statement.{statement}
 use Rattle.laea.proofs.answer_rest.Tie as tie
 
@@ -11,9 +11,7 @@ answer-last-requires : tie.Need-answer-last-requires
 answer-last-requires c κs = search needs
 
 array-share-prefix-out : tie.Need-array-share-prefix-out
-array-share-prefix-out c =
-    let part = partOf (c .before .before .args .c) in
-    written-within _ (answersOf (lastLine part)) (last-size part) (c .answer-last .ensures .0) (c .answer-last .ensures .1)
+array-share-prefix-out c = put-within (last-size (partOf (c .before .before .args .c))) (c .answer-last .ensures)
 
 slice-aggregate-write-all : tie.Need-slice-aggregate-write-all
 slice-aggregate-write-all c = sym (length-take-le _ _ (array-share-prefix-out (c .before)))

@@ -1,9 +1,11 @@
--- `laea::main` is safe and ends. ETRS-LAEA is an accepted set. Assumes nothing.
+-- `laea::main` is safe and ends: the constants are those of ETRS-LAEA, which is an accepted set. Assumes nothing.
 use borrow.Author.Needs.{needs}
-use mathlib.Core.Path.{_≡_, sym, ap, _∙_}
-use Rattle.parameters.specs.ParameterSet.{setRefusal, etrsLaea}
-use Rattle.constants.specs.Derived.{constantsOf}
-use Rattle.lines.proofs.Answers.{etrs-accepted}
+use native.Mathlib.Omega.{arith}
+use mathlib.Core.List.{List}
+use Prim.Native.Nat.{ℕ}
+use Rattle.parameters.specs.ParameterSet.{etrsLaea}
+use Rattle.constants.specs.Derived.{Prepared}
+use Rattle.lines.proofs.Etrs.{set-accepted, etrs-prepared}
 use Rattle.laea.proofs.main.Statement.{statement}
 use Rattle.laea.proofs.main.Tie as tie
 
@@ -14,10 +16,10 @@ etrs-laea-requires : tie.Need-etrs-laea-requires
 etrs-laea-requires c κs = search needs
 
 constants-of-requires : tie.Need-constants-of-requires
-constants-of-requires c κs = (search needs, ap setRefusal (c .etrs-laea .ensures) ∙ etrs-accepted)
+constants-of-requires c κs = (search needs, set-accepted (c .etrs-laea .ensures))
 
-made : (c : tie.After-constants-of) → c .constants-of .result ≡ constantsOf etrsLaea
-made c = c .constants-of .ensures ∙ ap constantsOf (c .before .etrs-laea .ensures)
+made : (c : tie.After-constants-of) → Prepared (c .before .before .before .table .result) etrsLaea (c .constants-of .result)
+made c = etrs-prepared (c .before .etrs-laea .ensures) (c .before .before .before .table .ensures) (c .constants-of .ensures)
 
 large-buffer-requires : tie.Need-large-buffer-requires
 large-buffer-requires c κs = search needs
@@ -26,10 +28,10 @@ slice-aggregate-answer-all : tie.Need-slice-aggregate-answer-all
 slice-aggregate-answer-all c = search needs
 
 answer-all-requires : tie.Need-answer-all-requires
-answer-all-requires c κs = (search needs, made (c .before .before .before), sym (c .before .before .large-buffer .ensures))
+answer-all-requires c κs = (made (c .before .before .before), omega arith)
 
 answer-rest-requires : tie.Need-answer-rest-requires
-answer-rest-requires c κs = (search needs, made (c .before .before .before .before .before .before), c .before .before .answer-all .ensures)
+answer-rest-requires c κs = (made (c .before .before .before .before .before .before), c .before .before .answer-all .ensures)
 
 returns : tie.Need-returns
 returns c = search needs
