@@ -24,9 +24,35 @@ struct Turn {
     more: bool,
 }
 
+// No bytes came. At the input's end what is carried is the last line; an interrupted read is tried
+// again; a read that failed is said and ends the program, and the part of a line that was carried is
+// dropped, since answered as a line it could be a position that nobody sent.
+fn without_bytes(c: Carried, got: isize) -> Turn
+    requires { ⌜ IsCarried c ⌝ }
+    ensures { λ r. ⌜ IsCarried (r .carried) ⌝ }
+{
+    if got == 0 {
+        return Turn {
+            carried: c,
+            more: false,
+        };
+    }
+    if os::errno() == libc::EINTR {
+        return Turn {
+            carried: c,
+            more: true,
+        };
+    }
+    os::fail(b"laea: standard input");
+    Turn {
+        carried: nothing_carried(),
+        more: false,
+    }
+}
+
 // Reads once, so that a line typed at a terminal is answered at once, and answers the lines that
-// have come to their end. A failed read ends the input. Where the answers cannot be written it
-// stops, with nothing carried.
+// have come to their end. Where the answers cannot be written it says so and stops, with nothing
+// carried.
 fn answer_some(t: &Table, k: Constants, c: Carried, out: &mut [u8]) -> Turn
     requires { ⌜ Prepared (now t) etrsLaea k × IsCarried c × HasRoom (now out) ⌝ }
     ensures { λ r. ⌜ IsCarried (r .carried) ⌝ }
@@ -34,10 +60,7 @@ fn answer_some(t: &Table, k: Constants, c: Carried, out: &mut [u8]) -> Turn
     let mut piece = [0u8; PIECE_MOST];
     let got = libc::read(STDIN_FILENO, &mut piece);
     if got <= 0 {
-        return Turn {
-            carried: c,
-            more: false,
-        };
+        return without_bytes(c, got);
     }
     let n = io::count(got, &piece);
     let progress = answer_piece(t, k, c, &piece[..n], out);
@@ -49,6 +72,7 @@ fn answer_some(t: &Table, k: Constants, c: Carried, out: &mut [u8]) -> Turn
             more: true,
         };
     }
+    os::fail(b"laea: standard output");
     Turn {
         carried: nothing_carried(),
         more: false,
@@ -79,7 +103,9 @@ fn answer_rest(t: &Table, k: Constants, c: Carried)
 {
     let mut out = [0u8; ANSWER_MOST];
     let n = answer_last(t, k, c, &mut out);
-    io::write_all(STDOUT_FILENO, &out[..n]);
+    if !io::write_all(STDOUT_FILENO, &out[..n]) {
+        os::fail(b"laea: standard output");
+    }
 }
 
 fn main() {

@@ -19,8 +19,17 @@ slice-aggregate-write-all c = sym (length-take-le _ _ (array-share-prefix-out (c
 write-all-requires : tie.Need-write-all-requires
 write-all-requires c κs = search needs
 
+slice-aggregate-fail : tie.Need-slice-aggregate-fail
+slice-aggregate-fail c = search needs
+
+fail-requires : tie.Need-fail-requires
+fail-requires c κs = search needs
+
 returns : tie.Need-returns
 returns c = search needs
+
+returns-2 : tie.Need-returns-2
+returns-2 c = search needs
 
 pub answer-rest-spec : {M : Type 1} → statement M
 answer-rest-spec =
@@ -30,4 +39,7 @@ answer-rest-spec =
     array-share-prefix-out
     slice-aggregate-write-all
     write-all-requires
-    returns)
+    slice-aggregate-fail
+    fail-requires
+    returns
+    returns-2)

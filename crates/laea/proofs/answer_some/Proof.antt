@@ -1,4 +1,4 @@
--- `laea::answer_some` meets its contract: the answers of a piece have at most 32 bytes for each of its bytes, so they can be taken from `out`.
+-- `answer_some` meets its contract: the answers of a piece have at most 32 bytes for each of its bytes, so they can be taken from `out`.
 -- Assumes nothing.
 use mathlib.Core.Path.{sym}
 use mathlib.Core.List.{List, []}
@@ -18,6 +18,9 @@ slice-aggregate-read c = search needs
 
 read-requires : tie.Need-read-requires
 read-requires c κs = search needs
+
+without-bytes-requires : tie.Need-without-bytes-requires
+without-bytes-requires c κs = search needs
 
 returns : tie.Need-returns
 returns c = search needs
@@ -70,6 +73,12 @@ same-length c = search needs
 returns-2 : tie.Need-returns-2
 returns-2 c = carried (c .before .before .before .before .before .before)
 
+slice-aggregate-fail : tie.Need-slice-aggregate-fail
+slice-aggregate-fail c = search needs
+
+fail-requires : tie.Need-fail-requires
+fail-requires c κs = search needs
+
 nothing-carried-requires : tie.Need-nothing-carried-requires
 nothing-carried-requires c κs = search needs
 
@@ -85,6 +94,7 @@ answer-some-spec =
     (tie.spec
     slice-aggregate-read
     read-requires
+    without-bytes-requires
     returns
     slice-aggregate-count
     count-requires
@@ -96,6 +106,8 @@ answer-some-spec =
     write-all-requires
     same-length
     returns-2
+    slice-aggregate-fail
+    fail-requires
     nothing-carried-requires
     same-length-2
     returns-3)
