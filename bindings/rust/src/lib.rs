@@ -26,6 +26,13 @@
 //! centimetres. The calls on `f64` take degrees and metres, round their exact values to these
 //! units, halves away from zero, and give back the whole answer divided once by 3,600,000 or 100.
 //!
+//! # Accuracy
+//!
+//! Each answer is that of the papers' whole-number steps, to the last unit. These steps take the
+//! sine in straight lines between whole minutes of arc, so that an answer lies up to 0.15 m from the
+//! exact projection in Europe, 0.5 m in the half of the globe around the centre and 9 m where it
+//! is farthest, as measured against PROJ; the README of the repository says more.
+//!
 //! # Calls
 //!
 //! The calls keep no state, allocate nothing, do not panic and may be made from several threads at
@@ -51,6 +58,11 @@ pub use lists::LIST_MOST;
 pub use positions::{PlanePosition, Position, WholePlanePosition, WholePosition};
 pub use refusal::Refusal;
 pub use set::Set;
+
+/// The examples of the README are run with the tests.
+#[cfg(doctest)]
+#[doc = include_str!("../README.md")]
+struct Readme;
 
 /// The version of this crate as one number: 200 is 0.2.0.
 pub const VERSION: u32 = 200;
