@@ -5,7 +5,7 @@ use crate::Set;
 extern "C" {
     pub fn laea1_forward(set: Set, latitude: f64, longitude: f64, out: *mut [f64; 2]) -> u8;
 
-    pub fn laea1_inverse(set: Set, first: f64, second: f64, out: *mut [f64; 2]) -> u8;
+    pub fn laea1_inverse(set: Set, easting: f64, northing: f64, out: *mut [f64; 2]) -> u8;
 
     pub fn laea1_forward_whole(set: Set, latitude: i64, longitude: i64, out: *mut [i64; 2]) -> u8;
 
@@ -19,10 +19,10 @@ extern "C" {
         latitudes_length: usize,
         longitudes: *const f64,
         longitudes_length: usize,
-        leading: *mut f64,
-        leading_length: usize,
-        trailing: *mut f64,
-        trailing_length: usize,
+        eastings: *mut f64,
+        eastings_length: usize,
+        northings: *mut f64,
+        northings_length: usize,
         marks: *mut u8,
         marks_length: usize,
         count: *mut u64,
@@ -30,10 +30,10 @@ extern "C" {
 
     pub fn laea1_inverse_list(
         set: Set,
-        leading: *const f64,
-        leading_length: usize,
-        trailing: *const f64,
-        trailing_length: usize,
+        eastings: *const f64,
+        eastings_length: usize,
+        northings: *const f64,
+        northings_length: usize,
         latitudes: *mut f64,
         latitudes_length: usize,
         longitudes: *mut f64,
