@@ -1,46 +1,66 @@
 /*
- * Lambert Azimuthal Equal-Area (EPSG 9820): latitude and longitude to easting and northing, and
- * back, one point or a list at a time; and the cell that a position lies in. For C and C++.
+ * Lambert Azimuthal Equal-Area (EPSG method 9820): latitude and longitude to easting and northing,
+ * and back, one point or a list at a time; and the map cell that a position lies in. For C and C++.
  *
- * The functions stand in the archive liblaea_c.a. They keep no state, allocate nothing, never fail
- * otherwise than by a refusal number, and may be called from several threads at once. A call takes
- * less than 32 KB of stack.
+ *     double out[2];
+ *     uint8_t refusal = laea_forward(LAEA_ETRS_LAEA, 50.0, 5.0, out);
+ *     if (refusal == LAEA_OK)
+ *         printf("easting %.2f m, northing %.2f m\n", out[0], out[1]);
+ *     else
+ *         printf("refused: %s\n", laea_refusal_text(refusal));
  *
- * Units. Two layers give the same answers: whole numbers, milliarcseconds (mas; one degree is
- * 3,600,000 mas) and centimetres (cm); and double, degrees and metres. A double is rounded to the
- * nearest mas or cm, halves away from zero, after the limits of refusal 3 were tested on the double
- * itself; an answer is the whole number divided by 3,600,000 or 100. North and east are positive.
+ * The functions stand in the archive liblaea_c.a. They keep no state, allocate nothing, read and
+ * write nothing but their arguments, and always return.
  *
- * The parameter set. Every call but laea_cell begins with its six fields, in this order:
+ * Units. Two layers give the same answers: double, in degrees and metres; and whole numbers, in
+ * milliarcseconds (mas; one degree is 3,600,000 mas) and centimetres (cm). A double that is put in
+ * is rounded to the nearest mas or cm, halves away from zero; an answer is the whole number divided
+ * by 3,600,000 or 100. North and east are positive.
  *
- *   a               semi-major axis, cm             100,000,000 to 1,000,000,000
- *   e2              eccentricity squared, in        0 to 10,000,000 (0 is the sphere)
- *                   billionths
- *   lat0            latitude of the natural         -306,000,000 to 306,000,000 (85 degrees),
- *                   origin, mas                     or exactly -324,000,000 or 324,000,000
- *   lon0            longitude of the natural        above -648,000,000, at most 648,000,000
- *                   origin, mas
- *   false_easting   cm                              -1,000,000,000 to 1,000,000,000
- *   false_northing  cm                              -1,000,000,000 to 1,000,000,000
+ * Accuracy: see README.
  *
- * Refusal numbers. A call takes every value of every argument and refuses what it does not accept:
+ * The parameter set says which ellipsoid and which centre; see laea_set below. LAEA_ETRS_LAEA is the
+ * set of ETRS89 / ETRS-LAEA (EPSG 3035).
  *
- *   1   a field of the parameter set is outside the table above
- *   2   a coordinate is NaN or infinite
- *   3   a latitude beyond 90 or a longitude beyond 180 degrees, either side of 0; an easting or a
- *       northing beyond 50,000,000 m (5,000,000,000 cm), either side of 0; a cell's side that is
- *       not one of the three
- *   4   too far from the centre of the projection
- *   5   the lists of a call are not of one length
- *   6   the lists are longer than LAEA_LIST_MOST
+ * Refusals. Every value of every argument is taken, NaN and infinity too, and is answered or refused
+ * with a number. The first that applies is told: of a single point 1, 2, 3, 4 in this order; of a
+ * list call 5, 6, 1, and then of each point 2, 3, 4. Both coordinates are tested for 2 before either
+ * is for 3. The limits of 3 are tested on the double itself, before it is rounded.
  *
- * The first that applies is told: of a single point 1, 2, 3, 4 in this order; of a list call 5, 6, 1,
- * and then of each point 2, 3, 4. Both coordinates are tested for 2 before either is for 3.
+ *   1  LAEA_BAD_SET        a field of the parameter set is outside its range
+ *   2  LAEA_NOT_FINITE     a coordinate is NaN or infinite
+ *   3  LAEA_OUT_OF_LIMITS  a latitude beyond 90 or a longitude beyond 180 degrees, either side of 0;
+ *                          an easting or a northing beyond 50,000,000 m (5,000,000,000 cm), either
+ *                          side of 0; a cell's side that is not one of the three
+ *   4  LAEA_TOO_FAR        too far from the centre of the projection: close to the point opposite to
+ *                          it, or where the map has no position
+ *   5  LAEA_UNEQUAL_LISTS  the lists of a call are not of one length
+ *   6  LAEA_LONG_LISTS     the lists are longer than LAEA_LIST_MOST
  *
- * What the caller owes, since nothing can test it: `out` is a valid pointer to two elements; a list
- * is a pointer to as many elements as the length after it says, valid for the whole call, and may be
- * null only where that length is 0; and nothing that a call writes overlaps another of its arguments.
- * The two lists that a call only reads may be one.
+ * A refused call writes nothing: neither `out`, nor an element of a list, nor the count.
+ *
+ * What the caller owes, since nothing can test it:
+ *   - `out` points to two elements and `count` to one; a list points to as many elements as the
+ *     length after it says. All stay valid for the whole call, and no other thread writes them.
+ *   - None is null, but a list whose length is 0 may be.
+ *   - Each pointer is aligned as its type asks.
+ *   - What a call writes (`out`; the two lists of answers, the marks, the count) overlaps nothing
+ *     else that the call is given. The two lists that a call only reads may be one.
+ *
+ * Threads. Any number of threads may call at once, each with its own places to write.
+ *
+ * Stack. A call takes less than 32 KB of the caller's stack.
+ *
+ * One point or a list. Each call, single or list, copies a table of sines (22 KB, about 0.5
+ * microseconds) and works out the constants of its set. A single call pays that for one point, a list
+ * call once for up to LAEA_LIST_MOST. Use single calls where points come one by one, and lists where
+ * a batch is at hand; the answers are the same.
+ *
+ * Platform: x86-64 Linux, for which the archive is compiled.
+ *
+ * Versions. LAEA_VERSION is this header's, laea_version() the archive's. The functions' names in the
+ * archive hold the number of the set's layout (laea1_forward): a program that was compiled against
+ * a header with another layout does not link.
  */
 #ifndef LAEA_H
 #define LAEA_H
@@ -52,79 +72,164 @@
 extern "C" {
 #endif
 
-/* The parameter set ETRS89 / ETRS-LAEA (EPSG 3035), as the first six arguments of a call. */
-#define LAEA_ETRS_LAEA \
-    INT64_C(637813700), INT64_C(6694380), INT64_C(187200000), INT64_C(36000000), \
-    INT64_C(432100000), INT64_C(321000000)
+/* 10,000 times the major number, 100 times the minor one, and the patch: 0.2.0. */
+#define LAEA_VERSION 200
 
-/* The refusal numbers. */
-#define LAEA_REFUSED_SET 1
-#define LAEA_REFUSED_NOT_FINITE 2
-#define LAEA_REFUSED_OUT_OF_RANGE 3
-#define LAEA_REFUSED_TOO_FAR 4
-#define LAEA_REFUSED_UNEQUAL_LENGTHS 5
-#define LAEA_REFUSED_TOO_LONG 6
+/* What a call returns, and what a point's mark is. */
+#define LAEA_OK 0
+#define LAEA_BAD_SET 1
+#define LAEA_NOT_FINITE 2
+#define LAEA_OUT_OF_LIMITS 3
+#define LAEA_TOO_FAR 4
+#define LAEA_UNEQUAL_LISTS 5
+#define LAEA_LONG_LISTS 6
 
 /* The most points that a list call takes. */
 #define LAEA_LIST_MOST 4096
 
 /*
- * A single point. The result is 0, and then out[0] and out[1] are the answer; or it is the refusal
- * number, and then out is as it was.
+ * The parameter set. Copy an accepted set and assign the fields that differ:
+ *
+ *     laea_set set = LAEA_ETRS_LAEA;
+ *     set.lon0 = INT64_C(15) * 3600000;
+ *
+ * A field that a later version adds then keeps an accepted value. A brace initialiser of one's own
+ * would leave it 0, which that version may refuse.
+ */
+typedef struct laea_set {
+    /* semi-major axis in cm: 100,000,000 to 1,000,000,000 */
+    int64_t a;
+    /* eccentricity squared, in billionths: 0 to 10,000,000; 0 is the sphere */
+    int64_t e2;
+    /* latitude of the natural origin in mas: -306,000,000 to 306,000,000 (85 degrees), or exactly
+       -324,000,000 or 324,000,000 (a pole) */
+    int64_t lat0;
+    /* longitude of the natural origin in mas: above -648,000,000, at most 648,000,000 */
+    int64_t lon0;
+    /* what the natural origin's easting and northing are, in cm: -1,000,000,000 to 1,000,000,000 */
+    int64_t false_easting;
+    int64_t false_northing;
+} laea_set;
+
+/* C++ has no designated initialisers before C++20. */
+#ifdef __cplusplus
+#define LAEA_FIELD(name)
+#else
+#define LAEA_FIELD(name) .name =
+#endif
+
+/* ETRS89 / ETRS-LAEA (EPSG 3035): GRS 1980, centre 52 N 10 E. */
+static const laea_set LAEA_ETRS_LAEA = {
+    LAEA_FIELD(a) INT64_C(637813700),
+    LAEA_FIELD(e2) INT64_C(6694380),
+    LAEA_FIELD(lat0) INT64_C(187200000),
+    LAEA_FIELD(lon0) INT64_C(36000000),
+    LAEA_FIELD(false_easting) INT64_C(432100000),
+    LAEA_FIELD(false_northing) INT64_C(321000000)
+};
+
+/* The sphere of radius 6,371 km, centre 0 N 0 E, no false origin. */
+static const laea_set LAEA_SPHERE = {
+    LAEA_FIELD(a) INT64_C(637100000),
+    LAEA_FIELD(e2) 0,
+    LAEA_FIELD(lat0) 0,
+    LAEA_FIELD(lon0) 0,
+    LAEA_FIELD(false_easting) 0,
+    LAEA_FIELD(false_northing) 0
+};
+
+#undef LAEA_FIELD
+
+/* The functions' names in the archive. */
+#define laea_forward laea1_forward
+#define laea_inverse laea1_inverse
+#define laea_forward_whole laea1_forward_whole
+#define laea_inverse_whole laea1_inverse_whole
+#define laea_cell laea1_cell
+#define laea_forward_list laea1_forward_list
+#define laea_inverse_list laea1_inverse_list
+#define laea_set_refusal laea1_set_refusal
+#define laea_version laea1_version
+
+/*
+ * A single point. The result is LAEA_OK, and then out[0] and out[1] are the answer; or it is the
+ * refusal number, and then out is as it was.
  */
 
 /* Degrees to metres: out is easting, northing. Refused 1, 2, 3, 4. */
-uint8_t laea_forward(int64_t a, int64_t e2, int64_t lat0, int64_t lon0, int64_t false_easting,
-                     int64_t false_northing, double latitude, double longitude, double *out);
+uint8_t laea_forward(laea_set set, double latitude, double longitude, double out[2]);
 
 /* Metres to degrees: out is latitude, longitude. Refused 1, 2, 3, 4. */
-uint8_t laea_inverse(int64_t a, int64_t e2, int64_t lat0, int64_t lon0, int64_t false_easting,
-                     int64_t false_northing, double easting, double northing, double *out);
+uint8_t laea_inverse(laea_set set, double easting, double northing, double out[2]);
 
 /* mas to cm: out is easting, northing. Refused 1, 3, 4. */
-uint8_t laea_forward_whole(int64_t a, int64_t e2, int64_t lat0, int64_t lon0,
-                           int64_t false_easting, int64_t false_northing, int64_t latitude,
-                           int64_t longitude, int64_t *out);
+uint8_t laea_forward_whole(laea_set set, int64_t latitude, int64_t longitude, int64_t out[2]);
 
 /* cm to mas: out is latitude, longitude. Refused 1, 3, 4. */
-uint8_t laea_inverse_whole(int64_t a, int64_t e2, int64_t lat0, int64_t lon0,
-                           int64_t false_easting, int64_t false_northing, int64_t easting,
-                           int64_t northing, int64_t *out);
+uint8_t laea_inverse_whole(laea_set set, int64_t easting, int64_t northing, int64_t out[2]);
 
 /*
  * The cell of a position in cm, for a side of 10,000, 100,000 or 1,000,000 cm: out is the easting and
  * the northing divided by the side, the fraction dropped, so that -1 cm lies in cell 0. Refused 3.
  */
-uint8_t laea_cell(int64_t side, int64_t easting, int64_t northing, int64_t *out);
+uint8_t laea_cell(int64_t side, int64_t easting, int64_t northing, int64_t out[2]);
 
 /*
- * A list of points: two lists of coordinates in, two out, and a list of marks out; each is a pointer
- * and its length, and all five lengths are the same.
+ * A list of points: two lists of coordinates in, two lists of answers and a list of marks out; each is
+ * a pointer and its length, and all five lengths are the same.
  *
- * A result of 0 or more is the count of points with an answer: each point's mark is 0 and its two
- * values are written, or its mark is its refusal number (2, 3 or 4) and both values are 0.0. Every
- * element of the three lists is written.
- *
- * A negative result is the call's refusal: -5, -6 or -1. Then no element of any list is written.
+ * The result is LAEA_OK, and then every element of the three lists is written: a point with an answer
+ * has its two values and mark 0, any other has 0.0, 0.0 and its refusal number (2, 3 or 4) for mark;
+ * and *count is how many points have an answer. Or the result is the call's refusal number, 5, 6 or
+ * 1, and then nothing is written.
  */
 
 /* Degrees to metres. */
-int64_t laea_forward_list(int64_t a, int64_t e2, int64_t lat0, int64_t lon0, int64_t false_easting,
-                          int64_t false_northing,
+uint8_t laea_forward_list(laea_set set,
                           const double *latitudes, size_t latitudes_length,
                           const double *longitudes, size_t longitudes_length,
                           double *eastings, size_t eastings_length,
                           double *northings, size_t northings_length,
-                          uint8_t *marks, size_t marks_length);
+                          uint8_t *marks, size_t marks_length,
+                          uint64_t *count);
 
 /* Metres to degrees. */
-int64_t laea_inverse_list(int64_t a, int64_t e2, int64_t lat0, int64_t lon0, int64_t false_easting,
-                          int64_t false_northing,
+uint8_t laea_inverse_list(laea_set set,
                           const double *eastings, size_t eastings_length,
                           const double *northings, size_t northings_length,
                           double *latitudes, size_t latitudes_length,
                           double *longitudes, size_t longitudes_length,
-                          uint8_t *marks, size_t marks_length);
+                          uint8_t *marks, size_t marks_length,
+                          uint64_t *count);
+
+/* Whether a set is accepted: LAEA_OK or LAEA_BAD_SET. */
+uint8_t laea_set_refusal(laea_set set);
+
+/* The version of the archive, counted as LAEA_VERSION is. */
+uint32_t laea_version(void);
+
+/* A refusal number in words. */
+static inline const char *laea_refusal_text(uint8_t number)
+{
+    switch (number) {
+    case LAEA_OK:
+        return "accepted";
+    case LAEA_BAD_SET:
+        return "the parameter set has a field outside its range";
+    case LAEA_NOT_FINITE:
+        return "a coordinate is NaN or infinite";
+    case LAEA_OUT_OF_LIMITS:
+        return "a coordinate or a side is out of limits";
+    case LAEA_TOO_FAR:
+        return "too far from the centre of the projection";
+    case LAEA_UNEQUAL_LISTS:
+        return "the lists differ in length";
+    case LAEA_LONG_LISTS:
+        return "the lists are longer than 4,096";
+    default:
+        return "unknown refusal number";
+    }
+}
 
 #ifdef __cplusplus
 }

@@ -1,76 +1,117 @@
-//! Finds the archive `liblaea_c.a` and links it.
+//! Finds the archive `liblaea_c.a` and links it. It never builds the archive, for that is a proof.
 //!
-//! Looked for in this order: the folder named by `LAEA_ARCHIVE_DIR`; `target/staticlib` of the
-//! repository; else it is built by `rt staticlib laea_c` in the repository's root.
+//! The archive is looked for in the folder that `LAEA_ARCHIVE_DIR` names, else in
+//! `target/staticlib` of the repository. One that is missing, or older than the sources that it is
+//! made of, stops the build with what to do.
 
 use std::env;
+use std::fs;
+use std::io;
 use std::path::{Path, PathBuf};
-use std::process::{exit, Command};
+use std::process::exit;
+use std::time::SystemTime;
 
 const ARCHIVE: &str = "liblaea_c.a";
 const VARIABLE: &str = "LAEA_ARCHIVE_DIR";
 
 fn main() {
+    println!("cargo:rerun-if-changed=build.rs");
+    println!("cargo:rerun-if-env-changed={VARIABLE}");
     let manifest = env::var_os("CARGO_MANIFEST_DIR").expect("cargo sets CARGO_MANIFEST_DIR");
     let root = Path::new(&manifest).join("../..");
-    println!("cargo:rerun-if-env-changed={VARIABLE}");
-    println!("cargo:rerun-if-changed=build.rs");
+    let root = root.canonicalize().unwrap_or(root);
     let folder = match env::var_os(VARIABLE) {
-        Some(named) => named_folder(PathBuf::from(named)),
-        None => repository_folder(&root),
+        Some(named) => PathBuf::from(named),
+        None => root.join("target/staticlib"),
     };
     println!("cargo:rerun-if-changed={}", folder.join(ARCHIVE).display());
+    for source in ["crates", "crates.txt"].map(|name| root.join(name)) {
+        if source.exists() {
+            println!("cargo:rerun-if-changed={}", source.display());
+        }
+    }
+    let platform = ["ARCH", "OS", "POINTER_WIDTH"].map(target);
+    let fault = wrong_platform(&platform).or_else(|| bad_archive(&root, &folder.join(ARCHIVE)));
+    if let Some(fault) = fault {
+        eprintln!("{fault}");
+        exit(1);
+    }
     println!("cargo:rustc-link-search=native={}", folder.display());
     println!("cargo:rustc-link-lib=static=laea_c");
 }
 
-fn named_folder(folder: PathBuf) -> PathBuf {
-    if !folder.join(ARCHIVE).is_file() {
-        stop(&format!(
-            "{VARIABLE} is {}, but there is no {ARCHIVE} in it.",
-            folder.display()
-        ));
-    }
-    folder
+/// What cargo says of the platform that is built for.
+fn target(name: &str) -> String {
+    env::var(format!("CARGO_CFG_TARGET_{name}")).unwrap_or_default()
 }
 
-fn repository_folder(root: &Path) -> PathBuf {
-    let folder = root.join("target/staticlib");
-    if !folder.join(ARCHIVE).is_file() {
-        build_archive(root);
+/// Why the archive cannot be linked on a platform, if it cannot.
+pub fn wrong_platform(platform: &[String; 3]) -> Option<String> {
+    if platform.each_ref().map(String::as_str) == ["x86_64", "linux", "64"] {
+        return None;
     }
-    if !folder.join(ARCHIVE).is_file() {
-        stop(&format!(
-            "`rt staticlib laea_c` ended well but wrote no {ARCHIVE} into {}.",
-            folder.display()
-        ));
-    }
-    folder
+    let [arch, os, width] = platform;
+    Some(format!(
+        "The crate laea is for x86-64 Linux, the one platform that the Rattle kit compiles for.\n\
+         This build is for {arch} {os} with pointers of {width} bits."
+    ))
 }
 
-fn build_archive(root: &Path) {
-    match Command::new("rt")
-        .args(["staticlib", "laea_c"])
-        .current_dir(root)
-        .output()
-    {
-        Err(error) => stop(&format!(
-            "The archive {ARCHIVE} is not built, and `rt` cannot be run: {error}."
-        )),
-        Ok(output) if !output.status.success() => {
-            eprint!("{}", String::from_utf8_lossy(&output.stdout));
-            eprint!("{}", String::from_utf8_lossy(&output.stderr));
-            stop("`rt staticlib laea_c` failed; what it said stands above.");
+/// Why an archive cannot be linked and what to do, if it cannot.
+pub fn bad_archive(root: &Path, archive: &Path) -> Option<String> {
+    let fault = match fs::metadata(archive).and_then(|found| found.modified()) {
+        Err(error) => format!("There is no archive {}: {error}.", archive.display()),
+        Ok(built) => match newest_source(root) {
+            Err(error) => format!("The sources of {ARCHIVE} cannot be read: {error}."),
+            Ok(Some((changed, source))) if changed > built => format!(
+                "The archive {} is older than {}.",
+                archive.display(),
+                source.display()
+            ),
+            Ok(_) => return None,
+        },
+    };
+    Some(format!(
+        "{fault}\nWhat to do, one of:\n  \
+         - run `rt staticlib laea_c` in the repository's root, which proves and builds the archive\n    \
+           (it needs the Rattle kit), and build again;\n  \
+         - take an archive that was built from these sources on another x86-64 Linux machine, and\n    \
+           set {VARIABLE} to its folder."
+    ))
+}
+
+/// The source of the archive that was changed last, with the time; nothing where the crate stands
+/// outside the repository, so that there is nothing to compare with.
+fn newest_source(root: &Path) -> io::Result<Option<(SystemTime, PathBuf)>> {
+    let list = root.join("crates.txt");
+    if !list.is_file() {
+        return Ok(None);
+    }
+    let mut newest = (fs::metadata(&list)?.modified()?, list);
+    let mut folders = vec![root.join("crates")];
+    while let Some(folder) = folders.pop() {
+        for entry in fs::read_dir(folder)? {
+            let entry = entry?;
+            if entry.file_type()?.is_dir() {
+                folders.push(entry.path());
+            } else if is_source(&entry.path()) {
+                let changed = entry.metadata()?.modified()?;
+                if changed > newest.0 {
+                    newest = (changed, entry.path());
+                }
+            }
         }
-        Ok(_) => {}
     }
+    Ok(Some(newest))
 }
 
-fn stop(reason: &str) -> ! {
-    eprintln!("{reason}");
-    eprintln!("What to do, one of:");
-    eprintln!("  - put the Rattle kit's `rt` on the path and build again;");
-    eprintln!("  - run `rt staticlib laea_c` in the repository's root on another x86-64 machine,");
-    eprintln!("    copy target/staticlib/{ARCHIVE} here, and set {VARIABLE} to its folder.");
-    exit(1);
+/// Code (`.rt`), and definitions that its contracts cite (`.antt` in a folder `specs`).
+fn is_source(path: &Path) -> bool {
+    match path.extension().and_then(|extension| extension.to_str()) {
+        Some("rt") => true,
+        Some("antt") => path
+            .parent()
+            .is_some_and(|folder| folder.ends_with("specs")),
+        _ => false,
+    }
 }

@@ -1,13 +1,20 @@
 //! The functions of `liblaea_c.a`, as `include/laea.h` declares them.
 
+use crate::Set;
+
 extern "C" {
-    pub fn laea_forward_list(
-        a: i64,
-        e2: i64,
-        lat0: i64,
-        lon0: i64,
-        false_easting: i64,
-        false_northing: i64,
+    pub fn laea1_forward(set: Set, latitude: f64, longitude: f64, out: *mut [f64; 2]) -> u8;
+
+    pub fn laea1_inverse(set: Set, easting: f64, northing: f64, out: *mut [f64; 2]) -> u8;
+
+    pub fn laea1_forward_whole(set: Set, latitude: i64, longitude: i64, out: *mut [i64; 2]) -> u8;
+
+    pub fn laea1_inverse_whole(set: Set, easting: i64, northing: i64, out: *mut [i64; 2]) -> u8;
+
+    pub fn laea1_cell(side: i64, easting: i64, northing: i64, out: *mut [i64; 2]) -> u8;
+
+    pub fn laea1_forward_list(
+        set: Set,
         latitudes: *const f64,
         latitudes_length: usize,
         longitudes: *const f64,
@@ -18,15 +25,11 @@ extern "C" {
         northings_length: usize,
         marks: *mut u8,
         marks_length: usize,
-    ) -> i64;
+        count: *mut u64,
+    ) -> u8;
 
-    pub fn laea_inverse_list(
-        a: i64,
-        e2: i64,
-        lat0: i64,
-        lon0: i64,
-        false_easting: i64,
-        false_northing: i64,
+    pub fn laea1_inverse_list(
+        set: Set,
         eastings: *const f64,
         eastings_length: usize,
         northings: *const f64,
@@ -37,55 +40,10 @@ extern "C" {
         longitudes_length: usize,
         marks: *mut u8,
         marks_length: usize,
-    ) -> i64;
-
-    pub fn laea_forward(
-        a: i64,
-        e2: i64,
-        lat0: i64,
-        lon0: i64,
-        false_easting: i64,
-        false_northing: i64,
-        latitude: f64,
-        longitude: f64,
-        out: *mut f64,
+        count: *mut u64,
     ) -> u8;
 
-    pub fn laea_inverse(
-        a: i64,
-        e2: i64,
-        lat0: i64,
-        lon0: i64,
-        false_easting: i64,
-        false_northing: i64,
-        easting: f64,
-        northing: f64,
-        out: *mut f64,
-    ) -> u8;
+    pub fn laea1_set_refusal(set: Set) -> u8;
 
-    pub fn laea_forward_whole(
-        a: i64,
-        e2: i64,
-        lat0: i64,
-        lon0: i64,
-        false_easting: i64,
-        false_northing: i64,
-        latitude: i64,
-        longitude: i64,
-        out: *mut i64,
-    ) -> u8;
-
-    pub fn laea_inverse_whole(
-        a: i64,
-        e2: i64,
-        lat0: i64,
-        lon0: i64,
-        false_easting: i64,
-        false_northing: i64,
-        easting: i64,
-        northing: i64,
-        out: *mut i64,
-    ) -> u8;
-
-    pub fn laea_cell(side: i64, easting: i64, northing: i64, out: *mut i64) -> u8;
+    pub fn laea1_version() -> u32;
 }

@@ -5,39 +5,74 @@
 //! whose functions are written and proved in Rattle; this crate gives them Rust's types and adds
 //! nothing to the answers. Every input is answered: with finite numbers, or with a [`Refusal`].
 //!
-//! Inside, angles are whole milliarcseconds (mas, 3,600,000 to the degree) and lengths whole
-//! centimetres. The calls on `f64` take degrees and metres, round their exact values to these
-//! units, halves away from zero, and give back the whole answer divided once by 3,600,000 or 100.
-//!
 //! ```
-//! use laea::{Degrees, Parameters};
+//! use laea::{Position, Set};
 //!
-//! let europe = Parameters::ETRS_LAEA;
-//! let place = Degrees { latitude: 50.0, longitude: 5.0 };
+//! let europe = Set::ETRS_LAEA;
+//! let place = Position { latitude: 50.0, longitude: 5.0 };
 //! let plane = europe.forward(place)?;
-//! assert!((plane.easting - 3962799.45).abs() < 1.0);
-//! assert!((plane.northing - 2999718.85).abs() < 1.0);
+//! assert!((plane.first - 3_962_799.45).abs() < 1.0);
+//! assert!((plane.second - 2_999_718.85).abs() < 1.0);
 //!
 //! let back = europe.inverse(plane)?;
 //! assert!((back.latitude - place.latitude).abs() < 0.0001);
 //! assert!((back.longitude - place.longitude).abs() < 0.0001);
 //! # Ok::<(), laea::Refusal>(())
 //! ```
+//!
+//! # Units
+//!
+//! Inside, angles are whole milliarcseconds (mas, 3,600,000 to the degree) and lengths whole
+//! centimetres. The calls on `f64` take degrees and metres, round their exact values to these
+//! units, halves away from zero, and give back the whole answer divided once by 3,600,000 or 100.
+//!
+//! # Accuracy
+//!
+//! Each answer is that of the papers' whole-number steps, to the last unit. These steps take the
+//! sine in straight lines between whole minutes of arc, so that an answer lies up to 0.15 m from the
+//! exact projection in Europe, 0.5 m in the half of the globe around the centre and 9 m where it
+//! is farthest, as measured against PROJ; the README of the repository says more.
+//!
+//! # Calls
+//!
+//! The calls keep no state, allocate nothing, do not panic and may be made from several threads at
+//! once; each takes less than 32 KB of stack. A call for one point copies the table of sines, about
+//! 0.5 µs, and a call for lists copies it once: use lists for more than a few points.
+//!
+//! The crate needs no `std`. The archive is for x86-64 Linux.
 
+#![no_std]
 #![deny(missing_docs)]
+#![forbid(unsafe_op_in_unsafe_fn)]
 
 mod archive;
+mod cells;
 mod lists;
-mod pairs;
-mod parameters;
+mod positions;
 mod refusal;
+mod set;
 mod single;
 
-pub use pairs::{Cell, Centimetres, Degrees, Metres, Milliarcseconds};
-pub use parameters::Parameters;
+pub use cells::{cell, Cell, Side};
+pub use lists::LIST_MOST;
+pub use positions::{PlanePosition, Position, WholePlanePosition, WholePosition};
 pub use refusal::Refusal;
-pub use single::cell;
+pub use set::Set;
 
-/// The greatest length of the lists that [`Parameters::forward_list`] and
-/// [`Parameters::inverse_list`] accept.
-pub const LONGEST_LIST: usize = 4096;
+/// The examples of the README are run with the tests.
+#[cfg(doctest)]
+#[doc = include_str!("../README.md")]
+struct Readme;
+
+/// The version of this crate as one number: 200 is 0.2.0.
+pub const VERSION: u32 = 200;
+
+/// The version of the archive that is linked, as one number like [`VERSION`].
+///
+/// ```
+/// assert_eq!(laea::archive_version(), laea::VERSION);
+/// ```
+pub fn archive_version() -> u32 {
+    // SAFETY: the call has no arguments and writes nothing.
+    unsafe { archive::laea1_version() }
+}

@@ -1,16 +1,19 @@
 //! Why a call, or one point of a list, was refused.
 
-use std::error::Error;
-use std::fmt;
+use core::error::Error;
+use core::fmt;
 
-/// Why a call, or one point of a list, was refused. A single call is tested for 1, 2, 3, 4 in this
-/// order; a list call for 5, 6, 1, then each of its points for 2, 3, 4.
+/// Why a call, or one point of a list, was refused.
+///
+/// The names are those of `include/laea.h`. The first that applies is told: of a single point 1, 2,
+/// 3, 4 in this order; of a list call 5, 6, 1, and then of each point 2, 3, 4. Both coordinates are
+/// tested for 2 before either is for 3.
 ///
 /// ```
-/// use laea::{Degrees, Parameters, Refusal};
+/// use laea::{Position, Refusal, Set};
 ///
-/// let nowhere = Degrees { latitude: f64::NAN, longitude: 200.0 };
-/// let refusal = Parameters::ETRS_LAEA.forward(nowhere).unwrap_err();
+/// let nowhere = Position { latitude: f64::NAN, longitude: 200.0 };
+/// let refusal = Set::ETRS_LAEA.forward(nowhere).unwrap_err();
 /// assert_eq!(refusal, Refusal::NotFinite);
 /// assert_eq!(refusal.number(), 2);
 /// assert_eq!(refusal.to_string(), "a coordinate is NaN or infinite (refusal 2)");
@@ -18,80 +21,109 @@ use std::fmt;
 #[derive(Clone, Copy, Debug, PartialEq, Eq, Hash)]
 #[non_exhaustive]
 pub enum Refusal {
-    /// 1: the parameter set has a field outside its range.
-    ParameterSet,
+    /// 1: a field of the parameter set is outside its range.
+    BadSet,
     /// 2: a coordinate is NaN or infinite.
     NotFinite,
-    /// 3: latitude beyond ±90°, longitude beyond ±180°, easting or northing beyond
-    /// ±50,000,000 m, or a side that cells cannot have.
-    OutOfRange,
+    /// 3: a latitude beyond ±90°, a longitude beyond ±180°, an easting or a northing beyond
+    /// ±50,000,000 m.
+    OutOfLimits,
     /// 4: too far from the centre of the projection.
     TooFar,
-    /// 5: the lists of one call differ in length.
-    UnequalLengths,
-    /// 6: the lists are longer than [`LONGEST_LIST`](crate::LONGEST_LIST).
-    TooLong,
+    /// 5: the lists of a call are not of one length.
+    UnequalLists,
+    /// 6: the lists are longer than [`LIST_MOST`](crate::LIST_MOST).
+    LongLists,
+    /// A number that this version of the crate has no name for.
+    Unknown(u8),
 }
 
 impl Refusal {
-    const ALL: [Refusal; 6] = [
-        Refusal::ParameterSet,
-        Refusal::NotFinite,
-        Refusal::OutOfRange,
-        Refusal::TooFar,
-        Refusal::UnequalLengths,
-        Refusal::TooLong,
-    ];
-
-    /// The refusal's number.
-    pub const fn number(self) -> u8 {
-        match self {
-            Refusal::ParameterSet => 1,
-            Refusal::NotFinite => 2,
-            Refusal::OutOfRange => 3,
-            Refusal::TooFar => 4,
-            Refusal::UnequalLengths => 5,
-            Refusal::TooLong => 6,
-        }
-    }
-
-    /// The refusal that a mark of a list names; nothing for mark 0 (the point was accepted) and
-    /// for a number that no refusal has.
+    /// The refusal of a number: of a mark that a list call wrote, or of a number that came from
+    /// elsewhere. Nothing for 0, which is no refusal.
     ///
     /// ```
     /// use laea::Refusal;
     ///
-    /// assert_eq!(Refusal::from_mark(0), None);
-    /// assert_eq!(Refusal::from_mark(4), Some(Refusal::TooFar));
+    /// assert_eq!(Refusal::from_number(0), None);
+    /// assert_eq!(Refusal::from_number(4), Some(Refusal::TooFar));
+    /// assert_eq!(Refusal::from_number(200), Some(Refusal::Unknown(200)));
     /// ```
-    pub fn from_mark(mark: u8) -> Option<Refusal> {
-        Refusal::ALL
-            .into_iter()
-            .find(|refusal| refusal.number() == mark)
+    pub const fn from_number(number: u8) -> Option<Refusal> {
+        Some(match number {
+            0 => return None,
+            1 => Refusal::BadSet,
+            2 => Refusal::NotFinite,
+            3 => Refusal::OutOfLimits,
+            4 => Refusal::TooFar,
+            5 => Refusal::UnequalLists,
+            6 => Refusal::LongLists,
+            unknown => Refusal::Unknown(unknown),
+        })
     }
 
-    /// The refusal of a number that the archive gave. It gives no other numbers; one that did
-    /// would not belong to this crate, and its answers could not be read.
-    pub(crate) fn of_archive(number: u64) -> Refusal {
-        u8::try_from(number)
-            .ok()
-            .and_then(Refusal::from_mark)
-            .unwrap_or_else(|| panic!("liblaea_c.a gave the refusal {number}, which this version of the crate does not know"))
+    /// The refusal's number.
+    pub const fn number(self) -> u8 {
+        match self {
+            Refusal::BadSet => 1,
+            Refusal::NotFinite => 2,
+            Refusal::OutOfLimits => 3,
+            Refusal::TooFar => 4,
+            Refusal::UnequalLists => 5,
+            Refusal::LongLists => 6,
+            Refusal::Unknown(number) => number,
+        }
+    }
+
+    /// What the refusal means, in the words of `include/laea.h`.
+    pub const fn text(self) -> &'static str {
+        match self {
+            Refusal::BadSet => "the parameter set has a field outside its range",
+            Refusal::NotFinite => "a coordinate is NaN or infinite",
+            Refusal::OutOfLimits => "a coordinate or a side is out of limits",
+            Refusal::TooFar => "too far from the centre of the projection",
+            Refusal::UnequalLists => "the lists differ in length",
+            Refusal::LongLists => "the lists are longer than 4,096",
+            Refusal::Unknown(_) => "unknown refusal number",
+        }
     }
 }
 
 impl fmt::Display for Refusal {
     fn fmt(&self, f: &mut fmt::Formatter<'_>) -> fmt::Result {
-        let meaning = match self {
-            Refusal::ParameterSet => "the parameter set has a field outside its range",
-            Refusal::NotFinite => "a coordinate is NaN or infinite",
-            Refusal::OutOfRange => "a coordinate or a side is out of range",
-            Refusal::TooFar => "too far from the centre of the projection",
-            Refusal::UnequalLengths => "the lists differ in length",
-            Refusal::TooLong => "the lists are longer than 4,096",
-        };
-        write!(f, "{meaning} (refusal {})", self.number())
+        write!(f, "{} (refusal {})", self.text(), self.number())
     }
 }
 
 impl Error for Refusal {}
+
+/// What a call wrote, or the refusal whose number it gave.
+pub(crate) fn answer<T>(number: u8, written: T) -> Result<T, Refusal> {
+    match Refusal::from_number(number) {
+        None => Ok(written),
+        Some(refusal) => Err(refusal),
+    }
+}
+
+#[cfg(test)]
+mod tests {
+    extern crate std;
+
+    use super::{answer, Refusal};
+    use std::string::ToString;
+
+    /// Whatever number an archive gives, it is told, and nothing panics.
+    #[test]
+    fn every_number() {
+        assert_eq!(answer(0, "written"), Ok("written"));
+        for number in 1..=u8::MAX {
+            let refusal = answer(number, ()).unwrap_err();
+            assert_eq!(Refusal::from_number(number), Some(refusal));
+            assert_eq!(refusal.number(), number);
+            assert_eq!(refusal == Refusal::Unknown(number), number > 6);
+            assert!(refusal
+                .to_string()
+                .ends_with(&std::format!("(refusal {number})")));
+        }
+    }
+}

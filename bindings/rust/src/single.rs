@@ -1,74 +1,48 @@
 //! The calls for one point.
 
 use crate::archive;
-use crate::{Cell, Centimetres, Degrees, Metres, Milliarcseconds, Parameters, Refusal};
+use crate::refusal::answer;
+use crate::{PlanePosition, Position, Refusal, Set, WholePlanePosition, WholePosition};
 
-/// The pair that the archive wrote, or the refusal whose number it gave.
-fn answer<T>(number: u8, pair: T) -> Result<T, Refusal> {
-    match number {
-        0 => Ok(pair),
-        refused => Err(Refusal::of_archive(refused.into())),
-    }
-}
-
-impl Parameters {
-    /// Easting and northing, in metres, of a position in degrees.
+impl Set {
+    /// The position on the plane, in metres, of a position in degrees.
     ///
     /// ```
-    /// use laea::{Degrees, Metres, Parameters};
+    /// use laea::{PlanePosition, Position, Set};
     ///
-    /// let centre = Degrees { latitude: 52.0, longitude: 10.0 };
-    /// let false_origin = Metres { easting: 4_321_000.0, northing: 3_210_000.0 };
-    /// assert_eq!(Parameters::ETRS_LAEA.forward(centre), Ok(false_origin));
+    /// let centre = Position { latitude: 52.0, longitude: 10.0 };
+    /// let false_origin = PlanePosition { first: 4_321_000.0, second: 3_210_000.0 };
+    /// assert_eq!(Set::ETRS_LAEA.forward(centre), Ok(false_origin));
     /// ```
-    pub fn forward(&self, position: Degrees) -> Result<Metres, Refusal> {
+    pub fn forward(&self, position: Position) -> Result<PlanePosition, Refusal> {
         let mut out = [0.0; 2];
-        // SAFETY: `out` is two places that the archive may write, as its header asks.
+        // SAFETY: `out` is two places that the archive may write.
         let number = unsafe {
-            archive::laea_forward(
-                self.a,
-                self.e2,
-                self.lat0,
-                self.lon0,
-                self.false_easting,
-                self.false_northing,
-                position.latitude,
-                position.longitude,
-                out.as_mut_ptr(),
-            )
+            archive::laea1_forward(*self, position.latitude, position.longitude, &mut out)
         };
-        answer(number, out).map(|[easting, northing]| Metres { easting, northing })
+        let [first, second] = answer(number, out)?;
+        Ok(PlanePosition { first, second })
     }
 
-    /// Latitude and longitude, in degrees, of a position on the plane in metres.
+    /// The position in degrees of a position on the plane, in metres.
     ///
     /// ```
-    /// use laea::{Degrees, Metres, Parameters, Refusal};
+    /// use laea::{PlanePosition, Position, Refusal, Set};
     ///
-    /// let false_origin = Metres { easting: 4_321_000.0, northing: 3_210_000.0 };
-    /// let centre = Degrees { latitude: 52.0, longitude: 10.0 };
-    /// assert_eq!(Parameters::ETRS_LAEA.inverse(false_origin), Ok(centre));
+    /// let false_origin = PlanePosition { first: 4_321_000.0, second: 3_210_000.0 };
+    /// let centre = Position { latitude: 52.0, longitude: 10.0 };
+    /// assert_eq!(Set::ETRS_LAEA.inverse(false_origin), Ok(centre));
     ///
-    /// let far = Metres { easting: 40_000_000.0, northing: 0.0 };
-    /// assert_eq!(Parameters::ETRS_LAEA.inverse(far), Err(Refusal::TooFar));
+    /// let far = PlanePosition { first: 40_000_000.0, second: 0.0 };
+    /// assert_eq!(Set::ETRS_LAEA.inverse(far), Err(Refusal::TooFar));
     /// ```
-    pub fn inverse(&self, position: Metres) -> Result<Degrees, Refusal> {
+    pub fn inverse(&self, position: PlanePosition) -> Result<Position, Refusal> {
         let mut out = [0.0; 2];
-        // SAFETY: `out` is two places that the archive may write, as its header asks.
-        let number = unsafe {
-            archive::laea_inverse(
-                self.a,
-                self.e2,
-                self.lat0,
-                self.lon0,
-                self.false_easting,
-                self.false_northing,
-                position.easting,
-                position.northing,
-                out.as_mut_ptr(),
-            )
-        };
-        answer(number, out).map(|[latitude, longitude]| Degrees {
+        // SAFETY: `out` is two places that the archive may write.
+        let number =
+            unsafe { archive::laea1_inverse(*self, position.first, position.second, &mut out) };
+        let [latitude, longitude] = answer(number, out)?;
+        Ok(Position {
             latitude,
             longitude,
         })
@@ -77,81 +51,45 @@ impl Parameters {
     /// Easting and northing, in whole centimetres, of a position in whole milliarcseconds.
     ///
     /// ```
-    /// use laea::{Centimetres, Milliarcseconds, Parameters, Refusal};
+    /// use laea::{Refusal, Set, WholePlanePosition, WholePosition};
     ///
-    /// let europe = Parameters::ETRS_LAEA;
-    /// let centre = Milliarcseconds { latitude: 187_200_000, longitude: 36_000_000 };
-    /// let false_origin = Centimetres { easting: 432_100_000, northing: 321_000_000 };
+    /// let europe = Set::ETRS_LAEA;
+    /// let centre = WholePosition { latitude: 187_200_000, longitude: 36_000_000 };
+    /// let false_origin = WholePlanePosition { easting: 432_100_000, northing: 321_000_000 };
     /// assert_eq!(europe.forward_whole(centre), Ok(false_origin));
     ///
-    /// let opposite = Milliarcseconds { latitude: -187_200_000, longitude: -612_000_000 };
+    /// let opposite = WholePosition { latitude: -187_200_000, longitude: -612_000_000 };
     /// assert_eq!(europe.forward_whole(opposite), Err(Refusal::TooFar));
     /// ```
-    pub fn forward_whole(&self, position: Milliarcseconds) -> Result<Centimetres, Refusal> {
+    pub fn forward_whole(&self, position: WholePosition) -> Result<WholePlanePosition, Refusal> {
         let mut out = [0; 2];
-        // SAFETY: `out` is two places that the archive may write, as its header asks.
+        // SAFETY: `out` is two places that the archive may write.
         let number = unsafe {
-            archive::laea_forward_whole(
-                self.a,
-                self.e2,
-                self.lat0,
-                self.lon0,
-                self.false_easting,
-                self.false_northing,
-                position.latitude,
-                position.longitude,
-                out.as_mut_ptr(),
-            )
+            archive::laea1_forward_whole(*self, position.latitude, position.longitude, &mut out)
         };
-        answer(number, out).map(|[easting, northing]| Centimetres { easting, northing })
+        let [easting, northing] = answer(number, out)?;
+        Ok(WholePlanePosition { easting, northing })
     }
 
     /// Latitude and longitude, in whole milliarcseconds, of a position in whole centimetres.
     ///
     /// ```
-    /// use laea::{Centimetres, Milliarcseconds, Parameters};
+    /// use laea::{Set, WholePlanePosition, WholePosition};
     ///
-    /// let false_origin = Centimetres { easting: 432_100_000, northing: 321_000_000 };
-    /// let centre = Milliarcseconds { latitude: 187_200_000, longitude: 36_000_000 };
-    /// assert_eq!(Parameters::ETRS_LAEA.inverse_whole(false_origin), Ok(centre));
+    /// let false_origin = WholePlanePosition { easting: 432_100_000, northing: 321_000_000 };
+    /// let centre = WholePosition { latitude: 187_200_000, longitude: 36_000_000 };
+    /// assert_eq!(Set::ETRS_LAEA.inverse_whole(false_origin), Ok(centre));
     /// ```
-    pub fn inverse_whole(&self, position: Centimetres) -> Result<Milliarcseconds, Refusal> {
+    pub fn inverse_whole(&self, position: WholePlanePosition) -> Result<WholePosition, Refusal> {
         let mut out = [0; 2];
-        // SAFETY: `out` is two places that the archive may write, as its header asks.
+        // SAFETY: `out` is two places that the archive may write.
         let number = unsafe {
-            archive::laea_inverse_whole(
-                self.a,
-                self.e2,
-                self.lat0,
-                self.lon0,
-                self.false_easting,
-                self.false_northing,
-                position.easting,
-                position.northing,
-                out.as_mut_ptr(),
-            )
+            archive::laea1_inverse_whole(*self, position.easting, position.northing, &mut out)
         };
-        answer(number, out).map(|[latitude, longitude]| Milliarcseconds {
+        let [latitude, longitude] = answer(number, out)?;
+        Ok(WholePosition {
             latitude,
             longitude,
         })
     }
-}
-
-/// The numbers of the cell that a position lies in: easting and northing divided by the side, the
-/// fraction dropped. The side is 10,000, 100,000 or 1,000,000 cm.
-///
-/// ```
-/// use laea::{cell, Cell, Centimetres, Refusal};
-///
-/// let place = Centimetres { easting: 396_279_945, northing: 299_971_885 };
-/// assert_eq!(cell(100_000, place), Ok(Cell { east: 3962, north: 2999 }));
-/// assert_eq!(cell(50_000, place), Err(Refusal::OutOfRange));
-/// ```
-pub fn cell(side: i64, position: Centimetres) -> Result<Cell, Refusal> {
-    let mut out = [0; 2];
-    // SAFETY: `out` is two places that the archive may write, as its header asks.
-    let number =
-        unsafe { archive::laea_cell(side, position.easting, position.northing, out.as_mut_ptr()) };
-    answer(number, out).map(|[east, north]| Cell { east, north })
 }

@@ -3,7 +3,7 @@
 use Prim.Native.Nat.{ℕ}
 use mathlib.Core.Path.{_≡_}
 use mathlib.Core.List.{List, [], _∷_}
-use lib.IntN.{ℤ, pos, negℤ}
+use lib.IntN.{ℤ}
 use lib.Ieee.{Float}
 use Rattle.parameters.specs.declared.Parameters.{Parameters}
 use Rattle.units.specs.Answers.{Told}
@@ -11,18 +11,25 @@ use Rattle.points.specs.declared.pairs.Row.{Row}
 use Rattle.point_lists.specs.declared.ListAnswer.{ListAnswer}
 use Rattle.point_lists.specs.declared.ListAnswer.the-variants.{Count, Refused}
 use Rattle.point_lists.specs.Lists.{written, zeros, listRefusal, listAnswer, ListCall}
+use Rattle.laea_c.specs.declared.sets.Set.{Set}
 
--- the parameter set of its fields, in the order of document 01's table
-abbrev pub setOf : (a e2 lat0 lon0 easting northing : ℤ) → Parameters
-setOf a e2 lat0 lon0 easting northing =
+-- the version 0.2.0: 10,000 times the major number, 100 times the minor one, and the patch
+abbrev pub version : ℕ
+version = 200
+
+-- the parameter set of these fields
+abbrev pub setOf : Set → Parameters
+setOf set =
     record {
-      a = a;
-      e2 = e2;
-      lat0 = record { 0 = lat0 };
-      lon0 = lon0;
-      «false_easting» = easting;
-      «false_northing» = northing;
+      a = set .a;
+      e2 = set .e2;
+      lat0 = record { 0 = set .lat0 };
+      lon0 = set .lon0;
+      «false_easting» = set .«false_easting»;
+      «false_northing» = set .«false_northing»;
     }
+
+-- ---- one point
 
 -- A call for a single answer: it returns the refusal number; `out` has the two values where that is 0, else what it had.
 pub record Answered {A : Type 0} (refusal : ℕ) (first second : A) (out out′ : List A) (r : ℕ) : Type 0 where
@@ -37,16 +44,17 @@ AnswersFloats answer = Answered (answer .mark) (answer .first) (answer .second)
 abbrev pub AnswersWhole : Told → (out out′ : List ℤ) → ℕ → Type 0
 AnswersWhole answer = Answered (answer .refusal) (answer .first) (answer .second)
 
--- the answer of a list call as one number: the count, or the refusal number made negative
-abbrev pub returned : ListAnswer → ℤ
-returned (Count count) = pos count
-returned (Refused number) = negℤ (pos number)
+-- ---- lists
 
--- A list call that works out each point by `row` with its set: the lists are as the library leaves them, and the result is its answer as one number.
-abbrev pub ReturnsList :
-    Parameters →
-    (Parameters → Float → Float → Row) →
-    (xs ys first first′ second second′ : List Float) (mark mark′ : List ℕ) → ℤ → Type 0
-ReturnsList p row xs ys first first′ second second′ mark mark′ r =
-    let answer = listAnswer (listRefusal p xs ys first second mark) (zeros mark′) in
-    ListCall p (row p) xs ys first first′ second second′ mark mark′ answer × (r ≡ returned answer)
+-- the count after a call with this answer: the answer's, or what it was
+abbrev pub countAfter : ListAnswer → ℕ → ℕ
+countAfter (Count count) before = count
+countAfter (Refused number) before = before
+
+-- A call with the set p that works out each point by `row`: the result is its refusal number; the lists are as the library's call leaves them;
+-- the count is that of the marks that are 0, or what it was where the call is refused.
+pub record ListAnswered (p : Parameters) (row : Parameters → Float → Float → Row) (xs ys first first′ second second′ : List Float)
+    (mark mark′ : List ℕ) (count count′ r : ℕ) : Type 0 where
+  pub result-is : r ≡ listRefusal p xs ys first second mark
+  pub lists-are : ListCall p (row p) xs ys first first′ second second′ mark mark′ (listAnswer r (zeros mark′))
+  pub count-is : count′ ≡ countAfter (listAnswer r (zeros mark′)) count

@@ -1,76 +1,46 @@
 // One point, in degrees and metres.
-use crate::fields::set;
+use crate::sets::Set;
+use crate::sets::parameters_of;
 use points::pairs::GeodeticPair;
-use points::pairs::GeodeticPairAnswer;
 use points::pairs::PlanePair;
-use points::pairs::PlanePairAnswer;
+use points::pairs::Row;
+use points::pairs::geodetic_row;
+use points::pairs::plane_row;
 use points::single::forward_degrees;
 use points::single::inverse_metres;
 ghost use Rattle.points.specs.Pairs.{forwardRow, inverseRow, degrees, metres};
-ghost use Rattle.laea_c.specs.Calls.{setOf, Answered, AnswersFloats};
+ghost use Rattle.laea_c.specs.Calls.{setOf, AnswersFloats};
 
 // Writes the two values where the refusal number is 0, and only there. Returns the number.
-fn answer_floats(refusal: u8, first: f64, second: f64, out: &mut [f64; 2]) -> u8
-    ensures { λ r. ⌜ Answered refusal first second (now (out .entry)) (now (out .exit)) r ⌝ }
+fn answer_floats(answer: Row, out: &mut [f64; 2]) -> u8
+    ensures { λ r. ⌜ AnswersFloats answer (now (out .entry)) (now (out .exit)) r ⌝ }
 {
-    if refusal == 0 {
-        *out = [first, second];
+    if answer.mark == 0 {
+        *out = [answer.first, answer.second];
     }
-    refusal
+    answer.mark
 }
 
 // Degrees to metres: easting and northing.
 #[no_mangle]
-pub extern "C" fn laea_forward(
-    a: i64,
-    e2: i64,
-    lat0: i64,
-    lon0: i64,
-    false_easting: i64,
-    false_northing: i64,
-    latitude: f64,
-    longitude: f64,
-    out: &mut [f64; 2],
-) -> u8
-    ensures { λ r. ⌜ AnswersFloats (forwardRow (setOf a e2 lat0 lon0 «false_easting» «false_northing») (degrees latitude longitude)) (now (out .entry)) (now (out .exit)) r ⌝ }
+pub extern "C" fn laea1_forward(set: Set, latitude: f64, longitude: f64, out: &mut [f64; 2]) -> u8
+    ensures { λ r. ⌜ AnswersFloats (forwardRow (setOf set) (degrees latitude longitude)) (now (out .entry)) (now (out .exit)) r ⌝ }
 {
-    let p = set(a, e2, lat0, lon0, false_easting, false_northing);
-    let answer = forward_degrees(
-        p,
-        GeodeticPair {
-            latitude,
-            longitude,
-        },
-    );
-    match answer {
-        PlanePairAnswer::Metres(pair) => answer_floats(0, pair.first, pair.second, out),
-        PlanePairAnswer::Refused(number) => answer_floats(number, 0.0, 0.0, out),
-    }
+    let at = GeodeticPair {
+        latitude,
+        longitude,
+    };
+    answer_floats(plane_row(forward_degrees(parameters_of(set), at)), out)
 }
 
 // Metres to degrees: latitude and longitude.
 #[no_mangle]
-pub extern "C" fn laea_inverse(
-    a: i64,
-    e2: i64,
-    lat0: i64,
-    lon0: i64,
-    false_easting: i64,
-    false_northing: i64,
-    easting: f64,
-    northing: f64,
-    out: &mut [f64; 2],
-) -> u8
-    ensures { λ r. ⌜ AnswersFloats (inverseRow (setOf a e2 lat0 lon0 «false_easting» «false_northing») (metres easting northing)) (now (out .entry)) (now (out .exit)) r ⌝ }
+pub extern "C" fn laea1_inverse(set: Set, easting: f64, northing: f64, out: &mut [f64; 2]) -> u8
+    ensures { λ r. ⌜ AnswersFloats (inverseRow (setOf set) (metres easting northing)) (now (out .entry)) (now (out .exit)) r ⌝ }
 {
-    let p = set(a, e2, lat0, lon0, false_easting, false_northing);
     let at = PlanePair {
         first: easting,
         second: northing,
     };
-    let answer = inverse_metres(p, at);
-    match answer {
-        GeodeticPairAnswer::Degrees(pair) => answer_floats(0, pair.latitude, pair.longitude, out),
-        GeodeticPairAnswer::Refused(number) => answer_floats(number, 0.0, 0.0, out),
-    }
+    answer_floats(geodetic_row(inverse_metres(parameters_of(set), at)), out)
 }

@@ -1,6 +1,8 @@
 // The library for programs in C and other languages: `include/laea.h` declares these functions for
-// their callers. A parameter set is its six fields in the order of document 01's table.
+// their callers. The number in their names is that of the set's layout, so that a program that was
+// compiled against another layout is not linked.
 pub mod degrees;
-mod fields;
 pub mod lists;
+pub mod sets;
+pub mod version;
 pub mod whole;

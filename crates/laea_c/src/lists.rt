@@ -1,63 +1,67 @@
 // Lists of points, in degrees and metres.
-use crate::fields::set;
-use integers::signed;
+use crate::sets::Set;
+use crate::sets::parameters_of;
 use point_lists::ListAnswer;
 use point_lists::forward_list;
 use point_lists::inverse_list;
 ghost use mathlib.Core.Path.{_≡_};
-ghost use Prim.Native.Nat.{_≤_};
-ghost use Rattle.point_lists.specs.Lists.{longest, forwardAt, inverseAt, list-told};
-ghost use Rattle.laea_c.specs.Calls.{setOf, returned as returnedOf, ReturnsList};
+ghost use Rattle.point_lists.specs.Lists.{forwardAt, inverseAt, list-told};
+ghost use Rattle.laea_c.specs.Calls.{setOf, countAfter, ListAnswered};
 
-// The count, or the refusal number made negative.
-fn returned(answer: ListAnswer) -> i64
-    requires { ⌜ list-told answer .count ≤ longest ⌝ }
-    ensures { λ r. ⌜ r ≡ returnedOf answer ⌝ }
+// Writes the count where there is one, and only there. Returns the refusal number; 0 is none.
+fn answer_list(answer: ListAnswer, count: &mut u64) -> u8
+    ensures { λ r. ⌜ r ≡ list-told answer .refusal ⌝ }
+    ensures { λ _. ⌜ now (count .exit) ≡ countAfter answer (now (count .entry)) ⌝ }
 {
     match answer {
-        ListAnswer::Count(count) => signed(false, count),
-        ListAnswer::Refused(number) => signed(true, number as u64),
+        ListAnswer::Count(points) => {
+            *count = points;
+            0
+        }
+        ListAnswer::Refused(number) => number,
     }
 }
 
 // Degrees to metres.
 #[no_mangle]
-pub extern "C" fn laea_forward_list(
-    a: i64,
-    e2: i64,
-    lat0: i64,
-    lon0: i64,
-    false_easting: i64,
-    false_northing: i64,
+pub extern "C" fn laea1_forward_list(
+    set: Set,
     latitudes: &[f64],
     longitudes: &[f64],
     leading: &mut [f64],
     trailing: &mut [f64],
     marks: &mut [u8],
-) -> i64
-    ensures { λ r. ⌜ ReturnsList (setOf a e2 lat0 lon0 «false_easting» «false_northing») forwardAt (now (latitudes .entry)) (now (longitudes .entry)) (now (leading .entry)) (now (leading .exit)) (now (trailing .entry)) (now (trailing .exit)) (now (marks .entry)) (now (marks .exit)) r ⌝ }
+    count: &mut u64,
+) -> u8
+    ensures { λ r. ⌜ ListAnswered (setOf set) forwardAt (now (latitudes .entry)) (now (longitudes .entry))
+        (now (leading .entry)) (now (leading .exit)) (now (trailing .entry)) (now (trailing .exit))
+        (now (marks .entry)) (now (marks .exit)) (now (count .entry)) (now (count .exit)) r ⌝ }
 {
-    let p = set(a, e2, lat0, lon0, false_easting, false_northing);
-    returned(forward_list(p, latitudes, longitudes, leading, trailing, marks))
+    let p = parameters_of(set);
+    answer_list(
+        forward_list(p, latitudes, longitudes, leading, trailing, marks),
+        count,
+    )
 }
 
 // Metres to degrees.
 #[no_mangle]
-pub extern "C" fn laea_inverse_list(
-    a: i64,
-    e2: i64,
-    lat0: i64,
-    lon0: i64,
-    false_easting: i64,
-    false_northing: i64,
+pub extern "C" fn laea1_inverse_list(
+    set: Set,
     leading: &[f64],
     trailing: &[f64],
     latitudes: &mut [f64],
     longitudes: &mut [f64],
     marks: &mut [u8],
-) -> i64
-    ensures { λ r. ⌜ ReturnsList (setOf a e2 lat0 lon0 «false_easting» «false_northing») inverseAt (now (leading .entry)) (now (trailing .entry)) (now (latitudes .entry)) (now (latitudes .exit)) (now (longitudes .entry)) (now (longitudes .exit)) (now (marks .entry)) (now (marks .exit)) r ⌝ }
+    count: &mut u64,
+) -> u8
+    ensures { λ r. ⌜ ListAnswered (setOf set) inverseAt (now (leading .entry)) (now (trailing .entry))
+        (now (latitudes .entry)) (now (latitudes .exit)) (now (longitudes .entry)) (now (longitudes .exit))
+        (now (marks .entry)) (now (marks .exit)) (now (count .entry)) (now (count .exit)) r ⌝ }
 {
-    let p = set(a, e2, lat0, lon0, false_easting, false_northing);
-    returned(inverse_list(p, leading, trailing, latitudes, longitudes, marks))
+    let p = parameters_of(set);
+    answer_list(
+        inverse_list(p, leading, trailing, latitudes, longitudes, marks),
+        count,
+    )
 }

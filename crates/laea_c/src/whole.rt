@@ -1,5 +1,6 @@
 // One point, in mas and cm; and the cell of a position.
-use crate::fields::set;
+use crate::sets::Set;
+use crate::sets::parameters_of;
 use azimuthal_forward::PlaneAnswer;
 use azimuthal_forward::forward;
 use azimuthal_inverse::GeodeticAnswer;
@@ -24,21 +25,15 @@ fn answer_whole(refusal: u8, first: i64, second: i64, out: &mut [i64; 2]) -> u8
 
 // mas to cm: easting and northing.
 #[no_mangle]
-pub extern "C" fn laea_forward_whole(
-    a: i64,
-    e2: i64,
-    lat0: i64,
-    lon0: i64,
-    false_easting: i64,
-    false_northing: i64,
+pub extern "C" fn laea1_forward_whole(
+    set: Set,
     latitude: i64,
     longitude: i64,
     out: &mut [i64; 2],
 ) -> u8
-    ensures { λ r. ⌜ AnswersWhole (forwardTold (setOf a e2 lat0 lon0 «false_easting» «false_northing») (record { 0 = latitude }) longitude) (now (out .entry)) (now (out .exit)) r ⌝ }
+    ensures { λ r. ⌜ AnswersWhole (forwardTold (setOf set) (record { 0 = latitude }) longitude) (now (out .entry)) (now (out .exit)) r ⌝ }
 {
-    let p = set(a, e2, lat0, lon0, false_easting, false_northing);
-    let answer = forward(p, Geodetic(latitude), longitude);
+    let answer = forward(parameters_of(set), Geodetic(latitude), longitude);
     match answer {
         PlaneAnswer::Plane { easting, northing } => answer_whole(0, easting, northing, out),
         PlaneAnswer::Refused(number) => answer_whole(number, 0, 0, out),
@@ -47,21 +42,15 @@ pub extern "C" fn laea_forward_whole(
 
 // cm to mas: latitude and longitude.
 #[no_mangle]
-pub extern "C" fn laea_inverse_whole(
-    a: i64,
-    e2: i64,
-    lat0: i64,
-    lon0: i64,
-    false_easting: i64,
-    false_northing: i64,
+pub extern "C" fn laea1_inverse_whole(
+    set: Set,
     easting: i64,
     northing: i64,
     out: &mut [i64; 2],
 ) -> u8
-    ensures { λ r. ⌜ AnswersWhole (inverseTold (setOf a e2 lat0 lon0 «false_easting» «false_northing») easting northing) (now (out .entry)) (now (out .exit)) r ⌝ }
+    ensures { λ r. ⌜ AnswersWhole (inverseTold (setOf set) easting northing) (now (out .entry)) (now (out .exit)) r ⌝ }
 {
-    let p = set(a, e2, lat0, lon0, false_easting, false_northing);
-    let answer = inverse(p, easting, northing);
+    let answer = inverse(parameters_of(set), easting, northing);
     match answer {
         GeodeticAnswer::Position {
             latitude,
@@ -73,7 +62,7 @@ pub extern "C" fn laea_inverse_whole(
 
 // The cell of a position in cm: its numbers east and north.
 #[no_mangle]
-pub extern "C" fn laea_cell(side: i64, easting: i64, northing: i64, out: &mut [i64; 2]) -> u8
+pub extern "C" fn laea1_cell(side: i64, easting: i64, northing: i64, out: &mut [i64; 2]) -> u8
     ensures { λ r. ⌜ AnswersWhole (cellTold side easting northing) (now (out .entry)) (now (out .exit)) r ⌝ }
 {
     let answer = cell(side, easting, northing);

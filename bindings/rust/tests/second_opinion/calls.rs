@@ -14,7 +14,7 @@ const CM: i128 = 100;
 /// Two values, or the refusal's number.
 pub type Answer<T> = Result<(T, T), u8>;
 
-/// "near(value · scale) of the double's exact value": the bits give a whole number times a power
+/// near(value · scale) "of the double's exact value": the bits give a whole number times a power
 /// of two. The value must be finite and below 2^53 in size.
 pub fn exact_near(value: f64, scale: i128) -> i128 {
     let bits = value.to_bits();

@@ -1,20 +1,22 @@
-//! The list calls, through the safe wrapper, against the second opinion. The wrapper hands its
-//! slices to the archive as they are, so what is left untouched is seen here too.
+//! The list calls, raw and through the safe wrapper, against the second opinion: what they write,
+//! what they leave untouched, and their count.
 
 use crate::calls::{self, Direction, Lists};
 use crate::positions::Ground;
 use crate::random::{inputs, seed, Random};
-use crate::raw;
+use crate::raw::{self, Count};
 use crate::report::Report;
 use crate::sets;
-use crate::single::{filling, parameters};
+use crate::single::filling;
 use crate::steps::Set;
 use laea::Refusal;
+use std::ops::Range;
 
 /// Elements before and after each lent list; they must stay as they are.
 const MARGIN: usize = 5;
 
 /// Lists that stand in longer ones, with a margin at both ends.
+#[derive(Clone)]
 struct Lent {
     lists: Lists,
     lengths: [usize; 5],
@@ -48,24 +50,34 @@ impl Lent {
         Lent { lists, lengths }
     }
 
+    /// Where each lent list stands.
+    fn spans(&self) -> [Range<usize>; 5] {
+        self.lengths.map(|length| MARGIN..MARGIN + length)
+    }
+
     fn call(&mut self, direction: Direction, set: &Set) -> Result<usize, u8> {
-        let span = |at: usize| MARGIN..MARGIN + self.lengths[at];
-        let [first, second] = &mut self.lists.outputs;
-        let inputs = (
-            &self.lists.inputs[0][span(0)],
-            &self.lists.inputs[1][span(1)],
-        );
-        let outputs = (&mut first[span(2)], &mut second[span(3)]);
-        let marks = &mut self.lists.marks[span(4)];
-        let answer = match direction {
-            Direction::Forward => {
-                parameters(set).forward_list(inputs.0, inputs.1, outputs.0, outputs.1, marks)
-            }
-            Direction::Inverse => {
-                parameters(set).inverse_list(inputs.0, inputs.1, outputs.0, outputs.1, marks)
-            }
+        let [in_first, in_second, out_first, out_second, marks] = self.spans();
+        let set = raw::lent(set);
+        let call = match direction {
+            Direction::Forward => laea::Set::forward_list,
+            Direction::Inverse => laea::Set::inverse_list,
         };
+        let [first, second] = &mut self.lists.outputs;
+        let answer = call(
+            &set,
+            &self.lists.inputs[0][in_first],
+            &self.lists.inputs[1][in_second],
+            &mut first[out_first],
+            &mut second[out_second],
+            &mut self.lists.marks[marks],
+        );
         answer.map_err(Refusal::number)
+    }
+
+    /// The refusal's number, 0 for none; the count stays as it is where the call is refused.
+    fn call_raw(&mut self, direction: Direction, set: &Set, count: &mut Count) -> u8 {
+        let spans = self.spans();
+        raw::list(direction, set, &mut self.lists, spans, count)
     }
 
     /// The lists as they must be after the call: margins and inputs as before, the rest as given.
@@ -122,25 +134,36 @@ fn check(
     random: &mut Random,
 ) -> (Result<usize, u8>, Lists) {
     let mut lent = Lent::new(&lists, random);
-    let mut wanted = Lent {
-        lists: lent.lists.clone(),
-        lengths: lent.lengths,
-    };
+    let mut lent_raw = lent.clone();
+    let mut wanted = lent.clone();
     let mut expected = lists;
     let answer = calls::list(direction, set, &mut expected);
     wanted.expect(&expected);
-    let given = lent.call(direction, set);
-    assert_eq!(
-        given, answer,
-        "{direction:?} {set:?}, lengths {:?}",
-        lent.lengths
-    );
-    assert!(
-        same(&lent.lists, &wanted.lists),
-        "{direction:?}: {}",
-        difference(set, &lent.lists, &wanted.lists)
-    );
+    let told = || format!("{direction:?} {set:?}, lengths {:?}", wanted.lengths);
+    let alike = |given: &Lent| {
+        assert!(
+            same(&given.lists, &wanted.lists),
+            "{direction:?}: {}",
+            difference(set, &given.lists, &wanted.lists)
+        );
+    };
+    let before = [(); 3].map(|()| filling(random));
+    let mut count = before;
+    let number = lent_raw.call_raw(direction, set, &mut count);
+    assert_eq!(number, answer.err().unwrap_or(0), "{}", told());
+    assert_eq!(count, counted(before, answer), "{}", told());
+    alike(&lent_raw);
+    assert_eq!(lent.call(direction, set), answer, "wrapper, {}", told());
+    alike(&lent);
     (answer, expected)
+}
+
+/// The count's place and its neighbours as they must be after a call.
+fn counted(before: Count, answer: Result<usize, u8>) -> Count {
+    match answer {
+        Ok(count) => [before[0], count as u64, before[2]],
+        Err(_) => before,
+    }
 }
 
 /// Five lengths: mostly equal, of every class, else with one or more that differ.
@@ -203,11 +226,11 @@ fn compare(name: &'static str, direction: Direction) {
     let seed = seed();
     let mut random = Random::new(seed);
     let mut report = Report::new(name, seed);
-    while report.inputs < inputs() || report.calls < inputs() / 100 {
+    while report.inputs < inputs() || report.calls < inputs() / 50 {
         let set = sets::any(&mut random);
         let lists = lists(direction, &set, lengths(&mut random), &mut random);
         let (answer, after) = check(direction, &set, lists, &mut random);
-        report.calls += 1;
+        report.calls += 2;
         match answer {
             Err(number) => report.answered(number),
             Ok(_) => {
@@ -221,12 +244,12 @@ fn compare(name: &'static str, direction: Direction) {
 
 #[test]
 fn forward_list() {
-    compare("laea_forward_list", Direction::Forward);
+    compare("laea1_forward_list", Direction::Forward);
 }
 
 #[test]
 fn inverse_list() {
-    compare("laea_inverse_list", Direction::Inverse);
+    compare("laea1_inverse_list", Direction::Inverse);
 }
 
 /// Every class of length and every place of an unequal one, with an accepted and a refused set.
@@ -269,10 +292,16 @@ fn null_pointers() {
     let mut random = Random::new(3);
     let refused = sets::refused(&mut random);
     for direction in [Direction::Forward, Direction::Inverse] {
-        assert_eq!(raw::null_lists(direction, &sets::EUROPE, &mut []), 0);
-        assert_eq!(raw::null_lists(direction, &refused, &mut []), -1);
+        let mut count = [7; 3];
+        let mut null_lists = |set: &Set, marks: &mut [u8]| {
+            let number = raw::null_lists(direction, set, marks, &mut count);
+            (number, std::mem::replace(&mut count, [7; 3]))
+        };
         let mut marks = [0xa5; 3];
-        assert_eq!(raw::null_lists(direction, &sets::EUROPE, &mut marks), -5);
+        assert_eq!(null_lists(&sets::EUROPE, &mut []), (0, [7, 0, 7]));
+        assert_eq!(null_lists(&refused, &mut []), (calls::SET, [7; 3]));
+        let unequal = null_lists(&sets::EUROPE, &mut marks);
+        assert_eq!(unequal, (calls::UNEQUAL, [7; 3]));
         assert_eq!(marks, [0xa5; 3]);
     }
 }
@@ -290,7 +319,7 @@ fn one_list_for_both_inputs() {
         let mut given = expected.clone();
         let answer = calls::list(direction, &sets::EUROPE, &mut expected);
         let [first, second] = &mut given.outputs;
-        let europe = laea::Parameters::ETRS_LAEA;
+        let europe = laea::Set::ETRS_LAEA;
         let count = match direction {
             Direction::Forward => {
                 europe.forward_list(&values, &values, first, second, &mut given.marks)

@@ -5,6 +5,9 @@
 //! `LAEA_INPUTS` sets the number of inputs for each call (1,000,000 without it), `LAEA_SEED` the
 //! seed (the clock without it). Each run prints its seed and its counts: use `--nocapture`.
 
+/// The crate's own declarations of the archive's functions, so that they stand in one place.
+#[path = "../../src/archive.rs"]
+mod archive;
 mod big;
 mod calls;
 mod lists;
@@ -13,7 +16,11 @@ mod positions;
 mod random;
 mod raw;
 mod report;
+mod set;
 mod sets;
 mod single;
 mod steps;
 mod table;
+
+/// The type that the declarations name.
+use laea::Set;

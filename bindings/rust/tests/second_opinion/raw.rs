@@ -1,100 +1,119 @@
-//! The archive's calls without the safe wrapper, so that what the calls for one point leave untouched
-//! can be looked at, and so that lists can be null pointers.
+//! The archive's calls without the safe wrapper, so that what a refused call leaves untouched can be
+//! looked at, and so that lists can be null pointers and sides any number.
 
-use crate::calls::Direction;
+use crate::archive;
+use crate::calls::{Direction, Lists};
 use crate::steps::Set;
-
-macro_rules! point_calls {
-    ($($name:ident: $value:ty),*) => {
-        extern "C" {
-            $(fn $name(
-                a: i64, e2: i64, lat0: i64, lon0: i64, fe: i64, fn_: i64,
-                first: $value, second: $value, out: *mut $value,
-            ) -> u8;)*
-        }
-    };
-}
-
-macro_rules! list_calls {
-    ($($name:ident),*) => {
-        extern "C" {
-            $(fn $name(
-                a: i64, e2: i64, lat0: i64, lon0: i64, fe: i64, fn_: i64,
-                in_first: *const f64, in_first_length: usize,
-                in_second: *const f64, in_second_length: usize,
-                out_first: *mut f64, out_first_length: usize,
-                out_second: *mut f64, out_second_length: usize,
-                marks: *mut u8, marks_length: usize,
-            ) -> i64;)*
-        }
-    };
-}
-
-point_calls!(laea_forward: f64, laea_inverse: f64, laea_forward_whole: i64, laea_inverse_whole: i64);
-list_calls!(laea_forward_list, laea_inverse_list);
-
-extern "C" {
-    fn laea_cell(side: i64, easting: i64, northing: i64, out: *mut i64) -> u8;
-}
+use std::ops::Range;
+use std::ptr::{null, null_mut};
 
 /// The places lent to a call are the middle two of four; the outer two must stay as they are.
 pub type Places<T> = [T; 4];
 
+/// The place lent for the count is the middle one of three; the outer two must stay as they are.
+pub type Count = [u64; 3];
+
+/// The set as the archive takes it.
+pub fn lent(set: &Set) -> laea::Set {
+    laea::Set {
+        a: set.a,
+        e2: set.e2,
+        lat0: set.lat0,
+        lon0: set.lon0,
+        false_easting: set.fe,
+        false_northing: set.fn_,
+    }
+}
+
+fn middle<T>(places: &mut Places<T>) -> *mut [T; 2] {
+    places[1..3].as_mut_ptr().cast()
+}
+
 pub fn single(direction: Direction, set: &Set, pair: (f64, f64), places: &mut Places<f64>) -> u8 {
     let call = match direction {
-        Direction::Forward => laea_forward,
-        Direction::Inverse => laea_inverse,
+        Direction::Forward => archive::laea1_forward,
+        Direction::Inverse => archive::laea1_inverse,
     };
-    let out = places[1..3].as_mut_ptr();
-    // SAFETY: `out` is two places that may be written.
-    unsafe {
-        call(
-            set.a, set.e2, set.lat0, set.lon0, set.fe, set.fn_, pair.0, pair.1, out,
-        )
-    }
+    // SAFETY: the last argument is two places that may be written.
+    unsafe { call(lent(set), pair.0, pair.1, middle(places)) }
 }
 
 pub fn whole(direction: Direction, set: &Set, pair: (i64, i64), places: &mut Places<i64>) -> u8 {
     let call = match direction {
-        Direction::Forward => laea_forward_whole,
-        Direction::Inverse => laea_inverse_whole,
+        Direction::Forward => archive::laea1_forward_whole,
+        Direction::Inverse => archive::laea1_inverse_whole,
     };
-    let out = places[1..3].as_mut_ptr();
-    // SAFETY: `out` is two places that may be written.
+    // SAFETY: the last argument is two places that may be written.
+    unsafe { call(lent(set), pair.0, pair.1, middle(places)) }
+}
+
+pub fn cell(side: i64, pair: (i64, i64), places: &mut Places<i64>) -> u8 {
+    // SAFETY: the last argument is two places that may be written.
+    unsafe { archive::laea1_cell(side, pair.0, pair.1, middle(places)) }
+}
+
+pub fn set_refusal(set: &Set) -> u8 {
+    // SAFETY: the call takes every set and writes nothing.
+    unsafe { archive::laea1_set_refusal(lent(set)) }
+}
+
+pub fn version() -> u32 {
+    // SAFETY: the call takes nothing and writes nothing.
+    unsafe { archive::laea1_version() }
+}
+
+/// A list call on a span of each list.
+pub fn list(
+    direction: Direction,
+    set: &Set,
+    lists: &mut Lists,
+    spans: [Range<usize>; 5],
+    count: &mut Count,
+) -> u8 {
+    let call = match direction {
+        Direction::Forward => archive::laea1_forward_list,
+        Direction::Inverse => archive::laea1_inverse_list,
+    };
+    let [first, second, third, fourth, fifth] = spans;
+    let inputs = (&lists.inputs[0][first], &lists.inputs[1][second]);
+    let [leading, trailing] = &mut lists.outputs;
+    let outputs = (&mut leading[third], &mut trailing[fourth]);
+    let marks = &mut lists.marks[fifth];
+    // SAFETY: each pointer and length is of a slice, and the count's place may be written.
     unsafe {
         call(
-            set.a, set.e2, set.lat0, set.lon0, set.fe, set.fn_, pair.0, pair.1, out,
+            lent(set),
+            inputs.0.as_ptr(),
+            inputs.0.len(),
+            inputs.1.as_ptr(),
+            inputs.1.len(),
+            outputs.0.as_mut_ptr(),
+            outputs.0.len(),
+            outputs.1.as_mut_ptr(),
+            outputs.1.len(),
+            marks.as_mut_ptr(),
+            marks.len(),
+            &mut count[1],
         )
     }
 }
 
-pub fn cell(side: i64, pair: (i64, i64), places: &mut Places<i64>) -> u8 {
-    let out = places[1..3].as_mut_ptr();
-    // SAFETY: `out` is two places that may be written.
-    unsafe { laea_cell(side, pair.0, pair.1, out) }
-}
-
 /// A list call with five null pointers and lengths of 0, except for the marks, which are given.
-pub fn null_lists(direction: Direction, set: &Set, marks: &mut [u8]) -> i64 {
-    use std::ptr::{null, null_mut};
+pub fn null_lists(direction: Direction, set: &Set, marks: &mut [u8], count: &mut Count) -> u8 {
     let call = match direction {
-        Direction::Forward => laea_forward_list,
-        Direction::Inverse => laea_inverse_list,
+        Direction::Forward => archive::laea1_forward_list,
+        Direction::Inverse => archive::laea1_inverse_list,
     };
-    let lent = if marks.is_empty() {
+    let given = if marks.is_empty() {
         null_mut()
     } else {
         marks.as_mut_ptr()
     };
-    // SAFETY: a list of length 0 may be null, by the header; the marks are a slice's.
+    // SAFETY: a list of length 0 may be null, by the header; the marks are a slice's, and the
+    // count's place may be written.
     unsafe {
         call(
-            set.a,
-            set.e2,
-            set.lat0,
-            set.lon0,
-            set.fe,
-            set.fn_,
+            lent(set),
             null(),
             0,
             null(),
@@ -103,8 +122,9 @@ pub fn null_lists(direction: Direction, set: &Set, marks: &mut [u8]) -> i64 {
             0,
             null_mut(),
             0,
-            lent,
+            given,
             marks.len(),
+            &mut count[1],
         )
     }
 }

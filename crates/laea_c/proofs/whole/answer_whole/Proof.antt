@@ -1,4 +1,4 @@
--- `whole::answer_whole` meets its contract: each arm is an end of a call. Assumes nothing.
+-- The values are written in the arm where the number is 0, and nothing in the other. Assumes nothing.
 use mir.Facts.{toZ-ofZ}
 use Rattle.laea_c.proofs.CallLaws.{accepted-answer, refused-answer}
 use Rattle.laea_c.proofs.whole.answer_whole.Statement.{statement}
