@@ -5,7 +5,7 @@ use mathlib.Core.Path.{_≡_, refl, ap, ap₂, _∙_}
 use mathlib.Core.Bool.{true, false}
 use native.Mathlib.Nat.{le-trans}
 use lib.Dec.{lit<}
-use lib.IntN.{ℤ, pos, negℤ, _+ℤ_, _-ℤ_, _*ℤ_, +ℤ-idr, *ℤ-zero}
+use lib.IntN.{ℤ, pos, negℤ, _+ℤ_, _*ℤ_, *ℤ-zero}
 use lib.Signed.{_≤ℤ_}
 use Rattle.integers.specs.Near.{near, nearest}
 use Rattle.integers.proofs.Rounding.{near-zero}
@@ -16,7 +16,7 @@ use Rattle.latitudes.specs.declared.Geodetic.{Geodetic}
 use Rattle.latitudes.specs.Latitude.{terms, rounded, beta}
 use Rattle.parameters.specs.ParameterSet.{etrsLaea}
 use Rattle.constants.specs.Derived.{to-mas, e4, e6, k2, k4, k6, seriesOf, β0, S0, C0, constantsOf}
-use Rattle.azimuthal_forward.specs.declared.PlaneAnswer.the-variants.{Plane, Refused}
+use Rattle.azimuthal_forward.specs.declared.PlaneAnswer.the-variants.{Plane}
 use Rattle.azimuthal_forward.specs.Steps.{H, b, c, u, v, w, G, dE, dN, near-enough}
 use Rattle.azimuthal_forward.specs.Answer.{on-globe, nearness, eastingOf, northingOf, forwardOf}
 use Rattle.azimuthal_forward.proofs.ForwardLaws.{H-least}

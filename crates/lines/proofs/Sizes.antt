@@ -1,9 +1,8 @@
 -- How long an answer's line is at most. An accepted forward answer is the false origin plus near(RD·u/H) or near(RN·w/H), where H is at least
 -- 100,000,000, so it has at most 11 digits; an inverse answer lies within ±180°; a refusal number has one digit. Assumes nothing.
-use mathlib.Core.Path.{_≡_, refl, ap, _∙_}
+use mathlib.Core.Path.{_≡_, refl}
 use mathlib.Core.Bool.{Bool, true, false}
-use mathlib.Core.List.{List, [], _∷_}
-use Prim.Native.Nat.{ℕ, _+_, _*_, _^_, _<_, _≤_}
+use Prim.Native.Nat.{_^_, _<_, _≤_}
 use native.Mathlib.Nat.{le-refl, le-trans}
 use native.Mathlib.Omega.{arith}
 use lib.Dec.{lit<, lit≤}
@@ -15,10 +14,9 @@ use Rattle.proof_kit.proofs.Size.{abs-add-le, abs-mul-le}
 use Rattle.integers.specs.Near.{near}
 use Rattle.integers.proofs.Rounding.{near-at-most}
 use Rattle.integers.proofs.Greatest.{greatest-le}
-use Rattle.units.specs.Units.{unit, right-angle, half-turn}
+use Rattle.units.specs.Units.{right-angle, half-turn}
 use Rattle.units.specs.Spans.{on-plane, wrapped}
 use Rattle.units.proofs.Spans.{wrapped-range}
-use Rattle.text.proofs.Digits.{text-size}
 use Rattle.latitudes.specs.declared.Geodetic.{Geodetic}
 use Rattle.latitudes.specs.declared.Authalic.{Authalic}
 use Rattle.latitudes.specs.declared.AuthalicSeries.{AuthalicSeries}
@@ -34,13 +32,12 @@ use Rattle.azimuthal_forward.proofs.ForwardLaws.{u-size, w-size, H-least}
 use Rattle.azimuthal_forward.proofs.AnswerLaws.{forward-off-globe, forward-too-far, forward-plane}
 use Rattle.azimuthal_inverse.specs.declared.SpherePoint.{SpherePoint}
 use Rattle.azimuthal_inverse.specs.Steps.{latitudeOf, longitudeOf, at-origin, on-map, K, found, G as inverseG}
-use Rattle.azimuthal_inverse.specs.Answer.{positionOf, answerFrom, inverseOf}
+use Rattle.azimuthal_inverse.specs.Answer.{answerFrom, inverseOf}
 use Rattle.azimuthal_inverse.proofs.AngleLaws.{longitude-size}
 use Rattle.azimuthal_inverse.proofs.AnswerLaws.{from-origin, from-off-map, from-too-far, from-position, inverse-off-plane, inverse-on-plane}
 use Rattle.requests.specs.declared.Request.{Request}
 use Rattle.requests.specs.declared.Request.the-variants.{Forward, Inverse, Bad}
 use Rattle.requests.specs.Requests.{requestOf}
-use Rattle.replies.specs.declared.Reply.{Reply}
 use Rattle.replies.specs.Replies.{replyText}
 use Rattle.replies.proofs.Sizes.{Small, reply-size}
 use Rattle.lines.specs.Lines.{planeReply, positionReply, replyOf, answerText, answerLine, answer-most}

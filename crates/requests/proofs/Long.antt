@@ -16,7 +16,6 @@ use Rattle.text.specs.Numbers.{digits-most, numberOf}
 use Rattle.text.specs.Cutting.{upTo, after}
 use Rattle.text.proofs.Cutting.{index-within}
 use Rattle.text.proofs.Numerals.{number-long}
-use Rattle.requests.specs.declared.Request.{Request}
 use Rattle.requests.specs.declared.Request.the-variants.{Bad}
 use Rattle.requests.specs.Requests.{space, byLetter, byFields, requestOf, line-most, most-kept}
 use Rattle.requests.specs.Theorems.{LongIsBad, KeptAlike}

@@ -44,6 +44,6 @@ requestOf (letter ∷ b ∷ fields) = cond (eqb b space) (byFields letter fields
 abbrev pub line-most : ℕ
 line-most = 25
 
--- So many bytes of a line tell what it asks for: one more than it may have. `KEPT_MOST` of src/ has this value.
+-- So many bytes of a line tell what it asks for: one more than it may have. `KEPT_MOST` of src/ has this value, as the proofs of `splitter` hold.
 abbrev pub most-kept : ℕ
 most-kept = suc line-most

@@ -1,6 +1,6 @@
 -- Answering the lines of a piece one after the other: a line reaches to the next newline, what is answered after it are the lines of the bytes past
 -- that newline, and each byte of a piece ends at most one line, so that there is room for all. Assumes nothing.
-use mathlib.Core.Path.{_≡_, sym, ap, ap₂, _∙_}
+use mathlib.Core.Path.{_≡_, sym, ap, _∙_}
 use mathlib.Core.Bool.{Bool, cond}
 use mathlib.Core.List.{List, [], _∷_, _++_}
 use Prim.Native.Nat.{ℕ, suc, _+_, _*_, _-_, _≤_, _<_}
@@ -8,7 +8,7 @@ use native.Mathlib.Omega.{arith}
 use lib.ListN.{length, take, drop, length-append, length-drop}
 use lib.Seq.{drop-drop}
 use Rattle.bytes.specs.Bytes.{indexOf, slice}
-use Rattle.text.specs.Pasting.{pasted, Put}
+use Rattle.text.specs.Pasting.{Put}
 use Rattle.text.specs.Cutting.{upTo, after}
 use Rattle.text.proofs.Pasting.{put-as, put-both, put-none, put-length}
 use Rattle.text.proofs.Cutting.{index-within, found}

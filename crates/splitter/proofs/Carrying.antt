@@ -1,13 +1,13 @@
 -- How a part is carried. The array starts with its kept bytes and has zeros after them; bytes that are put behind the part take the place of as many
 -- zeros, so that what stands then is how the joined part is carried. Assumes nothing.
-use mathlib.Core.Path.{_≡_, refl, sym, ap, ap₂, _∙_}
-use mathlib.Core.List.{List, [], _∷_, _++_, append-assoc}
+use mathlib.Core.Path.{_≡_, sym, ap, ap₂, _∙_}
+use mathlib.Core.List.{List, _++_}
 use mathlib.Core.Logic.{_⊎_, inl, inr}
-use Prim.Native.Nat.{ℕ, zero, suc, _+_, _-_, _≤_, _<_, min}
+use Prim.Native.Nat.{ℕ, zero, suc, _+_, _-_, _≤_}
 use native.Mathlib.Nat.{le-refl, sub-zero, zero-sub, suc-sub-suc}
 use native.Mathlib.Omega.{arith}
-use lib.ListN.{length, take, drop, replicate, length-append, length-take, length-replicate}
-use lib.Seq.{take-all, take-take, take-append-seam, take-append-add, drop-append-add, drop-nil}
+use lib.ListN.{length, take, drop, replicate, length-append, length-take}
+use lib.Seq.{take-all, take-take, take-append-seam, take-append-add, drop-append-add}
 use Rattle.requests.specs.Requests.{most-kept}
 use Rattle.text.specs.Pasting.{pasted, Put}
 use Rattle.text.proofs.Pasting.{pasted-parts}

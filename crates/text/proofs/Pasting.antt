@@ -7,7 +7,7 @@ use native.Mathlib.Nat.{add-assoc, le-refl}
 use native.Mathlib.Numerals.{add-one}
 use native.Mathlib.Omega.{arith}
 use lib.ListN.{length, take, drop, set, length-append}
-use lib.Seq.{paste, paste-zero, length-paste, take-paste, drop-paste, set-split, take-length, drop-drop, append-snoc}
+use lib.Seq.{paste-zero, length-paste, take-paste, drop-paste, set-split, take-length, drop-drop, append-snoc}
 use Rattle.text.specs.Pasting.{pasted, Put}
 
 -- the text in full

@@ -1,8 +1,6 @@
 -- `laea::main` is safe and ends: the constants are those of ETRS-LAEA, which is an accepted set. Assumes nothing.
 use borrow.Author.Needs.{needs}
 use native.Mathlib.Omega.{arith}
-use mathlib.Core.List.{List}
-use Prim.Native.Nat.{ℕ}
 use Rattle.parameters.specs.ParameterSet.{etrsLaea}
 use Rattle.constants.specs.Derived.{Prepared}
 use Rattle.lines.proofs.Etrs.{set-accepted, etrs-prepared}

@@ -1,7 +1,7 @@
 -- `lines::answer_at` meets its contract: the reply to what the line asks for is put, and the newline after it. There is room for both, since a
 -- reply's text is shorter than an answer's line may be. Assumes nothing.
-use mathlib.Core.Path.{_≡_, sym, ap, _∙_}
-use mathlib.Core.List.{List, [], _∷_, _++_}
+use mathlib.Core.Path.{_≡_, ap, _∙_}
+use mathlib.Core.List.{[], _∷_, _++_}
 use Prim.Native.Nat.{_<_}
 use native.Mathlib.Omega.{arith}
 use lib.ListN.{length}

@@ -1,5 +1,5 @@
 -- `lines::plane_reply` meets its contract: each case of the answer is a case of the reply, with the same numbers. Assumes nothing.
-use mathlib.Core.Path.{_≡_, sym, ap, ap₂, _∙_}
+use mathlib.Core.Path.{sym, ap, ap₂, _∙_}
 use mir.Facts.{toZ-ofZ}
 use Rattle.replies.specs.declared.Reply.the-variants.{Plane}
 use Rattle.lines.specs.Lines.{planeReply}

@@ -1,6 +1,4 @@
 -- `replies::put_labelled` meets its contract: the label is put, and the number's text after it. Assumes nothing.
-use mathlib.Core.List.{List}
-use Prim.Native.Nat.{ℕ}
 use native.Mathlib.Omega.{arith}
 use mir.Facts.{toZ-ofZ}
 use Rattle.text.specs.Numbers.{numberText}

@@ -1,6 +1,5 @@
 -- `splitter::answer_carried` meets its contract: the bytes that are lent are the carried part. Assumes nothing.
 use mathlib.Core.Path.{_≡_, sym}
-use Prim.Native.Nat.{_≤_}
 use native.Mathlib.Omega.{arith}
 use lib.ListN.{length}
 use lib.Seq.{length-take-le}

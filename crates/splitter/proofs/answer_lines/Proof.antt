@@ -5,7 +5,7 @@ use Prim.Native.Nat.{_-_}
 use native.Mathlib.Nat.{le-refl}
 use native.Mathlib.Omega.{arith}
 use lib.ListN.{length}
-use Rattle.splitter.proofs.Answering.{Line, line-found, end-inside, start-before}
+use Rattle.splitter.proofs.Answering.{line-found, end-inside, start-before}
 use Rattle.splitter.proofs.Answering.{Answering, line-room, line-answered, all-answered, rest-left}
 use Rattle.splitter.proofs.answer_lines.Statement.{statement}
 use Rattle.splitter.proofs.answer_lines.Tie as tie

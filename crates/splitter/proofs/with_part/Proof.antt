@@ -8,7 +8,6 @@ use lib.ListN.{length}
 use lib.Seq.{length-take-le}
 use borrow.Author.Needs.{needs}
 use Rattle.requests.specs.Requests.{most-kept}
-use Rattle.splitter.specs.declared.Carried.{Carried}
 use Rattle.splitter.proofs.Carrying.{len-most, more-carried}
 use Rattle.splitter.proofs.with_part.Statement.{statement}
 use Rattle.splitter.proofs.with_part.Tie as tie

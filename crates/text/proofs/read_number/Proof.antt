@@ -1,8 +1,6 @@
 -- `text::read_number` meets its contract: a minus is taken off, or the bytes are digits. Assumes nothing.
 use mathlib.Core.Path.{sym, ap, _∙_}
 use mathlib.Core.Bool.{true}
-use mathlib.Core.List.{List}
-use Prim.Native.Nat.{ℕ}
 use native.Mathlib.Omega.{arith}
 use Rattle.text.specs.Numbers.{unsignedOf}
 use Rattle.text.proofs.Cutting.{rest-of}
