@@ -6,6 +6,7 @@ use mathlib.Core.Bool.{true, false}
 use native.Mathlib.Omega.{arith}
 use lib.IntN.{pos, negℤ}
 use lib.Ieee.{fin}
+use lib.ListN.{drop}
 use Rattle.integers.specs.Near.{near, nearest}
 use Rattle.integers.proofs.Greatest.{greatest-here}
 use Rattle.units.specs.Units.{right-angle, degree, metre}
@@ -13,9 +14,9 @@ use Rattle.floats.specs.Conversion.{wholeOf}
 use Rattle.sine_table.specs.Table.{entry}
 use Rattle.sine_table.proofs.Laws.{entry-1, entry-5399}
 use Rattle.trig.specs.Sine.{between, first-quarter, first-half, one-turn, sine, cosine}
-use Rattle.trig.specs.Angle.{under}
+use Rattle.trig.specs.Angle.{under, angle}
 use Rattle.trig.proofs.Angles.{angle-none, angle-some, angle-edge}
-use Rattle.marked_cases.specs.Cases.{AllMarked}
+use Rattle.marked_cases.specs.Cases.{All, P, AllMarked}
 use Rattle.marked_cases.proofs.Sphere.{sphere-quarter}
 
 roundings : (near (pos 5) 2 ≡ pos 3) × (near (negℤ (pos 5)) 2 ≡ negℤ (pos 3))
@@ -38,24 +39,16 @@ doubles :
 unfolding wholeOf nearest
 doubles = (refl, refl, refl)
 
--- a case and those after it
-infixr 2 _also_
-_also_ : {A B : Type 0} → A → B → A × B
-a also b = (a, b)
+angles : (angle 7 7 ≡ 162_000_000) × (angle 0 1 ≡ right-angle) × (angle 0 0 ≡ 0)
+angles = (
+  angle-edge 7 7 162_000_000 (λ e. omega arith) (omega arith) (tests .0) (tests .1),
+  angle-some 0 1 (λ e. omega arith) ∙ greatest-here (under 0 1) right-angle (tests .2),
+  angle-none 0 0 refl,
+)
+
+-- the table, in two parts: from the seventh case on, and all of it
+angles-on : All (drop 6 P)
+angles-on = (ap pos (angles .0), (ap pos (angles .1), (ap pos (angles .2), (doubles .0, (doubles .1, (doubles .2, (sphere-quarter, tt)))))))
 
 pub all-marked : AllMarked
-all-marked =
-    roundings .0
-    also roundings .1
-    also ap pos entry-1
-    also ap pos entry-5399
-    also sines .0
-    also sines .1
-    also ap pos (angle-edge 7 7 162_000_000 (λ e. omega arith) (omega arith) (tests .0) (tests .1))
-    also ap pos (angle-some 0 1 (λ e. omega arith) ∙ greatest-here (under 0 1) right-angle (tests .2))
-    also ap pos (angle-none 0 0 refl)
-    also doubles .0
-    also doubles .1
-    also doubles .2
-    also sphere-quarter
-    also tt
+all-marked = (roundings .0, (roundings .1, (ap pos entry-1, (ap pos entry-5399, (sines .0, (sines .1, angles-on))))))

@@ -13,7 +13,7 @@ use Rattle.integers.specs.Near.{near, nearest}
 use Rattle.integers.specs.Root.{root}
 use Rattle.integers.proofs.Rounding.{near-zero, near-whole}
 use Rattle.integers.proofs.Squares.{root-is}
-use Rattle.units.specs.Units.{unit, U}
+use Rattle.units.specs.Units.{unit, U, right-angle}
 use Rattle.trig.specs.Sine.{sine, cosine}
 use Rattle.trig.proofs.Interface.{sine-zero, sine-right, cosine-zero, cosine-right}
 use Rattle.latitudes.specs.declared.Geodetic.{Geodetic}
@@ -116,7 +116,7 @@ unfolding k constantsOf
 fields = (sphere-S0, sphere-C0, sphere-RD, sphere-RN)
 
 quarter : ℤ
-quarter = pos 324_000_000
+quarter = pos right-angle
 
 quarter-b : b k equator quarter ≡ pos 0
 unfolding b k constantsOf
@@ -164,7 +164,7 @@ quarter-near : near-enough (nearness sphere equator quarter) ≡ true
 unfolding near-enough nearness k quarter
 quarter-near = ap (leZ (pos 20_000_000)) quarter-G
 
-pub sphere-quarter : forwardOf sphere (record { 0 = pos 0 }) (pos 324_000_000) ≡ Plane (pos 848_528_138) (pos 0)
+pub sphere-quarter : forwardOf sphere equator (pos right-angle) ≡ Plane (pos 848_528_138) (pos 0)
 unfolding k quarter eastingOf northingOf
 sphere-quarter =
     forward-plane sphere equator quarter sphere-accepted quarter-on-globe quarter-near

@@ -44,7 +44,7 @@ rest-below a = mod-lt a (lit< tt)
 -- no number of turns brings it nearer to 0 than the gap
 natural-least : (a : ℕ) (j : ℤ) → turnGap (pos a) ≤ natAbs (pos a +ℤ j *ℤ pos full-turn)
 unfolding turnGap
-natural-least a j = rw (rest a j) (rest-least (a % full-turn) (pos (a / full-turn) +ℤ j) (rest-below a))
+natural-least a j = rw (rest a j) (omega (arith, rest-least (a % full-turn) (pos (a / full-turn) +ℤ j) (rest-below a)))
 
 -- without its turns it is r, and with one more turn back r less a turn: one of the two is the smallest
 natural-attained : (a : ℕ) → Attained (pos a)

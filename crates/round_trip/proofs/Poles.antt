@@ -1,13 +1,13 @@
 -- A position at most 89° from the Equator keeps away from the poles on the sphere of β as well, so the cosine of its β is not small:
 -- β never falls, and rises by more than 59 minutes on the last degree. Assumes nothing.
 use mathlib.Core.List.{[], _∷_}
-use Prim.Native.Nat.{ℕ, suc, _≤_}
+use Prim.Native.Nat.{ℕ, suc, _-_, _≤_}
 use lib.Dec.{lit≤}
 use lib.IntN.{ℤ, pos, negsuc, natAbs, _-ℤ_, _*ℤ_}
 use lib.Signed.{_≤ℤ_}
 use Rattle.proof_kit.proofs.Order.{order, le-of, ≤ℤ-trans, negℤ-mono, abs-lower, abs-upper, abs-between}
 use Rattle.proof_kit.proofs.Ring.{quote}
-use Rattle.units.specs.Units.{right-angle, degree}
+use Rattle.units.specs.Units.{right-angle}
 use Rattle.trig.specs.Sine.{cosine}
 use Rattle.trig.proofs.Interface.{cosine-even, cosine-anti, sine-59-minutes}
 use Rattle.latitudes.specs.declared.AuthalicSeries.{AuthalicSeries}
@@ -36,9 +36,10 @@ cosine-least (negsuc n) h = rw (cosine-even (pos (suc n))) (natural-cosine (suc 
 
 -- from 89° to the pole, β rises by more than 59 minutes, as its slope is near 1
 beta-at-89 : (k : AuthalicSeries) → SmallSeries k → betaMas k (pos farthest-latitude) ≤ℤ pos far-beta
-beta-at-89 k small = below (betaMas k (pos farthest-latitude)) (rw (beta-north-pole k) at (beta-slope k small degree (pos farthest-latitude)))
+beta-at-89 k small =
+    below (betaMas k (pos farthest-latitude)) (rw (beta-north-pole k) at (beta-slope k small (right-angle - farthest-latitude) (pos farthest-latitude)))
   where
-    below : (x : ℤ) → (pos 993 *ℤ pos degree -ℤ pos 1000) ≤ℤ (pos 1000 *ℤ (pos right-angle -ℤ x)) → x ≤ℤ pos far-beta
+    below : (x : ℤ) → (pos 993 *ℤ pos (right-angle - farthest-latitude) -ℤ pos 1000) ≤ℤ (pos 1000 *ℤ (pos right-angle -ℤ x)) → x ≤ℤ pos far-beta
     below x h = omega (order, le-of (x ∷ []) (search quote depth 40 fits 20000) h)
 
 -- up to 89° on either side β is at least 59 minutes from the poles, as it never falls and is odd
