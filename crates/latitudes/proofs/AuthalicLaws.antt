@@ -1,6 +1,6 @@
 -- Laws of the authalic latitude β, for coefficients as small as those of every accepted set: odd, as each sine is; ±90° at ±90°, where each
 -- sine is 0; near φ, as the terms are small; and never falling, as the terms change by less than 0.7 % of what φ does. Assumes nothing.
-use mathlib.Core.Path.{_≡_, ap, _∙_}
+use mathlib.Core.Path.{_≡_, refl, ap, _∙_}
 use mathlib.Core.List.{[], _∷_}
 use Prim.Native.Nat.{ℕ, zero, suc, _+_, _*_, _<_, _≤_}
 use native.Mathlib.Nat.{le-trans}
@@ -32,6 +32,11 @@ mas φ = record { 0 = φ }
 abbrev pub betaMas : AuthalicSeries → ℤ → ℤ
 betaMas k φ = beta k (mas φ) .0
 
+-- φ less the three terms, rounded once
+beta-is : (k : AuthalicSeries) (φ : ℤ) → betaMas k φ ≡ φ -ℤ near (terms k (mas φ)) unit
+unfolding beta rounded
+beta-is k φ = refl
+
 -- ---- odd
 
 double-neg : (m φ : ℤ) → m *ℤ negℤ φ ≡ negℤ (m *ℤ φ)
@@ -50,9 +55,8 @@ terms-odd k φ =
     turned a x b y c z = ring (a ∷ x ∷ b ∷ y ∷ c ∷ z ∷ []) (search quote depth 40 fits 20000) tt
 
 pub beta-odd : (k : AuthalicSeries) (φ : ℤ) → betaMas k (negℤ φ) ≡ negℤ (betaMas k φ)
-unfolding beta rounded
 beta-odd k φ =
-    rw (terms-odd k φ, near-odd (terms k (mas φ)) unit some) (turned φ (near (terms k (mas φ)) unit))
+    rw (beta-is k φ, beta-is k (negℤ φ), terms-odd k φ, near-odd (terms k (mas φ)) unit some) (turned φ (near (terms k (mas φ)) unit))
   where
     turned : (x y : ℤ) → negℤ x -ℤ negℤ y ≡ negℤ (x -ℤ y)
     turned x y = ring (x ∷ y ∷ []) (search quote depth 40 fits 20000) tt
@@ -75,8 +79,7 @@ terms-pole k =
     none a b c = ring (a ∷ b ∷ c ∷ []) (search quote depth 40 fits 20000) tt
 
 pub beta-north-pole : (k : AuthalicSeries) → betaMas k (pos right-angle) ≡ pos right-angle
-unfolding beta rounded
-beta-north-pole k = rw (terms-pole k, near-zero unit some)
+beta-north-pole k = rw (beta-is k (pos right-angle), terms-pole k, near-zero unit some)
 
 pub beta-south-pole : (k : AuthalicSeries) → betaMas k (negℤ (pos right-angle)) ≡ negℤ (pos right-angle)
 beta-south-pole k = beta-odd k (pos right-angle) ∙ ap negℤ (beta-north-pole k)
@@ -146,13 +149,12 @@ pub beta-slope :
     SmallSeries k →
     (n : ℕ) (φ : ℤ) →
     (pos 993 *ℤ pos n -ℤ pos 1000) ≤ℤ (pos 1000 *ℤ (betaMas k (φ +ℤ pos n) -ℤ betaMas k φ))
-unfolding beta rounded
 beta-slope k small n φ =
     let here = terms k (mas φ) in
     let there = terms k (mas (φ +ℤ pos n)) in
     let scaled = abs-mul (pos unit) (near there unit -ℤ near here unit) in
-    falls-short (near there unit) (near here unit)
-    (omega (arith, scaled, near-apart there here unit some, terms-change k small n φ))
+    rw (beta-is k φ, beta-is k (φ +ℤ pos n))
+    (falls-short (near there unit) (near here unit) (omega (arith, scaled, near-apart there here unit some, terms-change k small n φ)))
   where
     falls-short :
         (x y : ℤ) →

@@ -38,7 +38,7 @@ module _ (b : tie.After-minute-sine2) where
   abbrev c : ℕ
   c = b .minute-sine2 .result
 
-  -- the mas of a radian over it
+  -- what the tangent's numerator is divided by, so that the quotient is in mas
   abbrev mas : ℕ
   mas = c * p / 206_264_806 + s * q / 206_264_806 + 1
 
