@@ -33,11 +33,14 @@ south-polar = centred (etrsLaea .a) (etrsLaea .e2) (negℤ (pos 90)) (pos 0)
 abbrev pub oblique-sphere : Parameters
 oblique-sphere = centred (pos 600_000_000) (pos 0) (pos 40) (negℤ (pos 100))
 
--- The first is the example of document 001.
+-- A statement about a set and a position, at each of the examples; the first is that of document 001.
+abbrev pub AtEach : (Parameters → Geodetic → ℤ → Type 0) → Type 0
+AtEach Holds =
+    Holds etrsLaea (latitude (pos 50)) (longitude (pos 5))
+    × Holds equatorial (latitude (negℤ (pos 15))) (longitude (pos 30))
+    × Holds north-polar (latitude (pos 75)) (longitude (pos 100))
+    × Holds south-polar (latitude (negℤ (pos 60))) (longitude (negℤ (pos 60)))
+    × Holds oblique-sphere (latitude (pos 30)) (longitude (negℤ (pos 90)))
+
 abbrev pub ConditionsMet : Type 0
-ConditionsMet =
-    Conditions etrsLaea (latitude (pos 50)) (longitude (pos 5))
-    × Conditions equatorial (latitude (negℤ (pos 15))) (longitude (pos 30))
-    × Conditions north-polar (latitude (pos 75)) (longitude (pos 100))
-    × Conditions south-polar (latitude (negℤ (pos 60))) (longitude (negℤ (pos 60)))
-    × Conditions oblique-sphere (latitude (pos 30)) (longitude (negℤ (pos 90)))
+ConditionsMet = AtEach Conditions
