@@ -5,7 +5,7 @@ use lib.IntN.{ℤ, pos, negℤ, _+ℤ_, _-ℤ_}
 use lib.Signed.{ltZ, leZ}
 use Rattle.units.specs.Units.{half-turn, full-turn, plane-limit}
 
--- "low to high", both counted
+-- from low to high, both counted
 unfoldable pub within : ℤ → ℤ → ℤ → Bool
 within low high z = leZ low z && leZ z high
 
