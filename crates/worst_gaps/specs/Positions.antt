@@ -7,6 +7,10 @@ use Rattle.units.specs.Units.{half-turn}
 use Rattle.latitudes.specs.declared.Geodetic.{Geodetic}
 use Rattle.round_trip.specs.RoundTrip.{farthest-latitude}
 
+-- where the sequence starts
+abbrev pub start : ℕ
+start = 1
+
 -- the next number of a linear congruential sequence
 abbrev pub nextOf : ℕ → ℕ
 nextOf s = (s % 2_147_483_648 * 1_103_515_245 + 12_345) % 2_147_483_648

@@ -20,6 +20,7 @@ ghost use Rattle.sine_table.specs.Table.{IsTable};
 ghost use Rattle.units.specs.Units.{right-angle, half-turn};
 ghost use Rattle.constants.specs.Derived.{Prepared};
 ghost use Rattle.azimuthal_forward.specs.Answer.{nearness as nearnessOf};
+ghost use Rattle.worst_gaps.specs.Positions.{start};
 ghost use Rattle.worst_gaps.specs.Tallies.{nothing, tripOf, stepOf, runOf};
 
 // Demand 3 speaks of positions at most 89° from the Equator whose nearness is at least 1,000,000,000.
@@ -30,7 +31,7 @@ const LEAST_NEARNESS: i64 = 1_000_000_000;
 // How many positions of the sequence are tried for a set, and where it starts.
 const POSITIONS: u64 = 1_500;
 
-const FIRST: u64 = 1;
+const START: u64 = 1;
 
 // There and back.
 fn trip(t: &Table, p: Parameters, k: Constants, lat: Geodetic, lon: i64, seen: Tally) -> Tally
@@ -76,10 +77,10 @@ fn step(t: &Table, p: Parameters, k: Constants, s: u64, seen: Tally) -> Tally
 // So many positions of the sequence.
 fn run(t: &Table, p: Parameters, k: Constants, count: u64) -> Tally
     requires { ⌜ Prepared (now t) p k ⌝ }
-    ensures { λ r. ⌜ r ≡ runOf p count 1 nothing ⌝ }
+    ensures { λ r. ⌜ r ≡ runOf p count start nothing ⌝ }
 {
     let mut seen = Tally::none();
-    let mut s = FIRST;
+    let mut s = START;
     let mut i = 0;
     while i < count {
         seen = step(t, p, k, s, seen);

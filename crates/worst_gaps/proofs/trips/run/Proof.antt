@@ -6,13 +6,13 @@ use mathlib.Core.Path.{_≡_, ap, ap₂, _∙_}
 use borrow.Author.Needs.{needs}
 use Rattle.parameters.specs.declared.Parameters.{Parameters}
 use Rattle.worst_gaps.specs.declared.tally.Tally.{Tally}
-use Rattle.worst_gaps.specs.Positions.{nextOf}
+use Rattle.worst_gaps.specs.Positions.{start, nextOf}
 use Rattle.worst_gaps.specs.Tallies.{nothing, stepOf, runOf}
 use Rattle.worst_gaps.proofs.trips.run.Statement.{statement}
 use Rattle.worst_gaps.proofs.trips.run.Tie as tie
 
 abbrev Inv-loop : tie.InvT-loop
-Inv-loop t p k count seen₀ s₀ i₀ seen s i = (i ≤ count) × (runOf p (count - i) s seen ≡ runOf p count 1 nothing)
+Inv-loop t p k count seen₀ s₀ i₀ seen s i = (i ≤ count) × (runOf p (count - i) s seen ≡ runOf p count start nothing)
 
 abbrev μ-loop : tie.MeasureT-loop
 μ-loop t p k count seen₀ s₀ i₀ seen s i = count - i
@@ -41,7 +41,7 @@ loop-holds : tie.Need-loop-holds Inv-loop μ-loop
 loop-holds c =
     let count = c .before .args .count in
     let all : count - 0 ≡ count = omega arith in
-    (search needs, ap₂ (λ (n : ℕ) (seen : Tally). runOf (c .before .args .p) n 1 seen) all (c .none .ensures))
+    (search needs, ap₂ (λ (n : ℕ) (seen : Tally). runOf (c .before .args .p) n start seen) all (c .none .ensures))
 
 step-requires : tie.Need-step-requires Inv-loop μ-loop
 step-requires c κs = search needs
@@ -61,9 +61,9 @@ loop-less c = search needs
 loop-again : tie.Need-loop-again Inv-loop μ-loop
 loop-again c =
     let at = at-next2 c in
-    let start = at .before .before in
-    let p = start .args .p in
-    let count = start .args .count in
+    let begin = at .before .before in
+    let p = begin .args .p in
+    let count = begin .args .count in
     let test : at .loop .i < count = omega arith in
     let next : c .next2 .result ≡ nextOf (nextOf (at .loop .s)) = c .next2 .ensures ∙ ap nextOf (c .before .next .ensures) in (
       search needs,
@@ -75,8 +75,8 @@ loop-again c =
 returns : tie.Need-returns Inv-loop μ-loop
 returns c =
     let at = c .before in
-    let start = at .before .before in
-    end (start .args .p) (start .args .count) (at .loop .i) (at .loop .s) (at .loop .seen) (search needs) ∙ at .loop .inv .1
+    let begin = at .before .before in
+    end (begin .args .p) (begin .args .count) (at .loop .i) (at .loop .s) (at .loop .seen) (search needs) ∙ at .loop .inv .1
 
 pub run-spec : {M : Type 1} → statement M
 run-spec =
