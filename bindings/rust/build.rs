@@ -59,18 +59,7 @@ pub fn wrong_platform(platform: &[String; 3]) -> Option<String> {
 
 /// Why an archive cannot be linked and what to do, if it cannot.
 pub fn bad_archive(root: &Path, archive: &Path) -> Option<String> {
-    let fault = match fs::metadata(archive).and_then(|found| found.modified()) {
-        Err(error) => format!("There is no archive {}: {error}.", archive.display()),
-        Ok(built) => match newest_source(root) {
-            Err(error) => format!("The sources of {ARCHIVE} cannot be read: {error}."),
-            Ok(Some((changed, source))) if changed > built => format!(
-                "The archive {} is older than {}.",
-                archive.display(),
-                source.display()
-            ),
-            Ok(_) => return None,
-        },
-    };
+    let fault = fault(root, archive)?;
     Some(format!(
         "{fault}\nWhat to do, one of:\n  \
          - run `rt staticlib laea_c` in the repository's root, which proves and builds the archive\n    \
@@ -78,6 +67,27 @@ pub fn bad_archive(root: &Path, archive: &Path) -> Option<String> {
          - take an archive that was built from these sources on another x86-64 Linux machine, and\n    \
            set {VARIABLE} to its folder."
     ))
+}
+
+fn fault(root: &Path, archive: &Path) -> Option<String> {
+    let shown = archive.display();
+    if archive.is_relative() {
+        return Some(format!(
+            "{VARIABLE} leads to {shown}: name the folder from the root on, for the build runs elsewhere."
+        ));
+    }
+    let built = match fs::metadata(archive).and_then(|found| found.modified()) {
+        Ok(built) => built,
+        Err(error) => return Some(format!("There is no archive {shown}: {error}.")),
+    };
+    match newest_source(root) {
+        Err(error) => Some(format!("The sources of {shown} cannot be read: {error}.")),
+        Ok(Some((changed, source))) if changed > built => Some(format!(
+            "The archive {shown} is older than {}.",
+            source.display()
+        )),
+        Ok(_) => None,
+    }
 }
 
 /// The source of the archive that was changed last, with the time; nothing where the crate stands
@@ -92,12 +102,13 @@ fn newest_source(root: &Path) -> io::Result<Option<(SystemTime, PathBuf)>> {
     while let Some(folder) = folders.pop() {
         for entry in fs::read_dir(folder)? {
             let entry = entry?;
+            let path = entry.path();
             if entry.file_type()?.is_dir() {
-                folders.push(entry.path());
-            } else if is_source(&entry.path()) {
+                folders.push(path);
+            } else if is_source(path.strip_prefix(root).unwrap_or(&path)) {
                 let changed = entry.metadata()?.modified()?;
                 if changed > newest.0 {
-                    newest = (changed, entry.path());
+                    newest = (changed, path);
                 }
             }
         }
@@ -105,13 +116,11 @@ fn newest_source(root: &Path) -> io::Result<Option<(SystemTime, PathBuf)>> {
     Ok(Some(newest))
 }
 
-/// Code (`.rt`), and definitions that its contracts cite (`.antt` in a folder `specs`).
+/// Code (`.rt`), and definitions that its contracts cite (`.antt` under a folder `specs`).
 fn is_source(path: &Path) -> bool {
     match path.extension().and_then(|extension| extension.to_str()) {
         Some("rt") => true,
-        Some("antt") => path
-            .parent()
-            .is_some_and(|folder| folder.ends_with("specs")),
+        Some("antt") => path.iter().any(|part| part == "specs"),
         _ => false,
     }
 }

@@ -1,11 +1,12 @@
-//! The functions of `liblaea_c.a`, as `include/laea.h` declares them.
+//! The functions of `liblaea_c.a`, as `include/laea.h` declares them. Plane coordinates in metres
+//! are named by place, as in the Rattle code; the header names what stands there.
 
 use crate::Set;
 
 extern "C" {
     pub fn laea1_forward(set: Set, latitude: f64, longitude: f64, out: *mut [f64; 2]) -> u8;
 
-    pub fn laea1_inverse(set: Set, easting: f64, northing: f64, out: *mut [f64; 2]) -> u8;
+    pub fn laea1_inverse(set: Set, first: f64, second: f64, out: *mut [f64; 2]) -> u8;
 
     pub fn laea1_forward_whole(set: Set, latitude: i64, longitude: i64, out: *mut [i64; 2]) -> u8;
 
@@ -19,10 +20,10 @@ extern "C" {
         latitudes_length: usize,
         longitudes: *const f64,
         longitudes_length: usize,
-        eastings: *mut f64,
-        eastings_length: usize,
-        northings: *mut f64,
-        northings_length: usize,
+        leading: *mut f64,
+        leading_length: usize,
+        trailing: *mut f64,
+        trailing_length: usize,
         marks: *mut u8,
         marks_length: usize,
         count: *mut u64,
@@ -30,10 +31,10 @@ extern "C" {
 
     pub fn laea1_inverse_list(
         set: Set,
-        eastings: *const f64,
-        eastings_length: usize,
-        northings: *const f64,
-        northings_length: usize,
+        leading: *const f64,
+        leading_length: usize,
+        trailing: *const f64,
+        trailing_length: usize,
         latitudes: *mut f64,
         latitudes_length: usize,
         longitudes: *mut f64,

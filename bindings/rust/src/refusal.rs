@@ -78,11 +78,11 @@ impl Refusal {
     /// What the refusal means, in the words of `include/laea.h`.
     pub const fn text(self) -> &'static str {
         match self {
-            Refusal::BadSet => "the parameter set has a field outside its range",
+            Refusal::BadSet => "a field of the parameter set is outside its range",
             Refusal::NotFinite => "a coordinate is NaN or infinite",
-            Refusal::OutOfLimits => "a coordinate or a side is out of limits",
+            Refusal::OutOfLimits => "a coordinate or a cell's side is beyond its limits",
             Refusal::TooFar => "too far from the centre of the projection",
-            Refusal::UnequalLists => "the lists differ in length",
+            Refusal::UnequalLists => "the lists are not of one length",
             Refusal::LongLists => "the lists are longer than 4,096",
             Refusal::Unknown(_) => "unknown refusal number",
         }

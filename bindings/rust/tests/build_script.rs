@@ -92,6 +92,7 @@ fn older_archive() {
         "crates/one/src/lib.rt",
         "crates/one/src/inner/part.rt",
         "crates/one/specs/Words.antt",
+        "crates/one/specs/inner/Part.antt",
         "crates/two/src/lib.rt",
     ] {
         change(&root.join(source), 2_000);
@@ -102,6 +103,18 @@ fn older_archive() {
         change(&root.join(source), 1_000);
         assert_eq!(fault(&root), None, "{source}");
     }
+}
+
+/// A folder named from where the caller stands is another one where the build runs.
+#[test]
+fn relative_folder() {
+    let root = repository("relative");
+    let said = build::bad_archive(&root, Path::new("staticlib/liblaea_c.a")).expect("refused");
+    assert!(
+        said.starts_with("LAEA_ARCHIVE_DIR leads to staticlib/liblaea_c.a"),
+        "{said}"
+    );
+    assert!(says_what_to_do(&said), "{said}");
 }
 
 /// Outside the repository there are no sources to compare with.
