@@ -215,15 +215,15 @@ static inline const char *laea_refusal_text(uint8_t number)
     case LAEA_OK:
         return "accepted";
     case LAEA_BAD_SET:
-        return "the parameter set has a field outside its range";
+        return "a field of the parameter set is outside its range";
     case LAEA_NOT_FINITE:
         return "a coordinate is NaN or infinite";
     case LAEA_OUT_OF_LIMITS:
-        return "a coordinate or a side is out of limits";
+        return "a coordinate or a cell's side is beyond its limits";
     case LAEA_TOO_FAR:
         return "too far from the centre of the projection";
     case LAEA_UNEQUAL_LISTS:
-        return "the lists differ in length";
+        return "the lists are not of one length";
     case LAEA_LONG_LISTS:
         return "the lists are longer than 4,096";
     default:

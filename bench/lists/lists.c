@@ -55,14 +55,16 @@ static void stop(const char *why)
 
 static void laea_lists_forward(const List *l)
 {
+    uint64_t count = 0;
     laea_forward_list(LAEA_ETRS_LAEA, l->first, LIST, l->second, LIST, out_first, LIST, out_second,
-                      LIST, marks, LIST);
+                      LIST, marks, LIST, &count);
 }
 
 static void laea_lists_inverse(const List *l)
 {
+    uint64_t count = 0;
     laea_inverse_list(LAEA_ETRS_LAEA, l->first, LIST, l->second, LIST, out_first, LIST, out_second,
-                      LIST, marks, LIST);
+                      LIST, marks, LIST, &count);
 }
 
 static void laea_single_forward(const List *l)

@@ -1,4 +1,4 @@
-/* A few calls of the library, each with the parameter set ETRS-LAEA. */
+/* A few calls of the library, most of them with the parameter set ETRS-LAEA. */
 #include <inttypes.h>
 #include <math.h>
 #include <stdio.h>
@@ -7,46 +7,45 @@
 
 #define POINTS 4
 
-static void forward(double latitude, double longitude)
+static void forward(laea_set set, double latitude, double longitude)
 {
     double out[2];
-    uint8_t refusal = laea_forward(LAEA_ETRS_LAEA, latitude, longitude, out);
+    uint8_t refusal = laea_forward(set, latitude, longitude, out);
 
     printf("forward %.6f %.6f: ", latitude, longitude);
-    if (refusal == 0)
+    if (refusal == LAEA_OK)
         printf("E %.2f m, N %.2f m\n", out[0], out[1]);
     else
-        printf("refused %d\n", refusal);
+        printf("refused %d: %s\n", refusal, laea_refusal_text(refusal));
 }
 
-static void inverse(double easting, double northing)
+static void inverse(laea_set set, double easting, double northing)
 {
     double out[2];
-    uint8_t refusal = laea_inverse(LAEA_ETRS_LAEA, easting, northing, out);
+    uint8_t refusal = laea_inverse(set, easting, northing, out);
 
     printf("inverse %.2f %.2f: ", easting, northing);
-    if (refusal == 0)
+    if (refusal == LAEA_OK)
         printf("latitude %.7f, longitude %.7f degrees\n", out[0], out[1]);
     else
-        printf("refused %d\n", refusal);
+        printf("refused %d: %s\n", refusal, laea_refusal_text(refusal));
 }
 
-static void whole(int64_t latitude, int64_t longitude)
+/* There and back in whole numbers. */
+static void whole(laea_set set, int64_t latitude, int64_t longitude)
 {
     int64_t out[2];
-    uint8_t refusal = laea_forward_whole(LAEA_ETRS_LAEA, latitude, longitude, out);
+    uint8_t refusal = laea_forward_whole(set, latitude, longitude, out);
 
     printf("forward %" PRId64 " %" PRId64 " mas: ", latitude, longitude);
-    if (refusal != 0) {
-        printf("refused %d\n", refusal);
-        return;
+    if (refusal == LAEA_OK) {
+        printf("E %" PRId64 " cm, N %" PRId64 " cm; and back: ", out[0], out[1]);
+        refusal = laea_inverse_whole(set, out[0], out[1], out);
     }
-    printf("E %" PRId64 " cm, N %" PRId64 " cm; ", out[0], out[1]);
-    refusal = laea_inverse_whole(LAEA_ETRS_LAEA, out[0], out[1], out);
-    if (refusal == 0)
-        printf("and back: %" PRId64 " %" PRId64 " mas\n", out[0], out[1]);
+    if (refusal == LAEA_OK)
+        printf("%" PRId64 " %" PRId64 " mas\n", out[0], out[1]);
     else
-        printf("and back: refused %d\n", refusal);
+        printf("refused %d: %s\n", refusal, laea_refusal_text(refusal));
 }
 
 static void cell(int64_t side, int64_t easting, int64_t northing)
@@ -55,54 +54,71 @@ static void cell(int64_t side, int64_t easting, int64_t northing)
     uint8_t refusal = laea_cell(side, easting, northing, out);
 
     printf("cell of side %" PRId64 " cm at %" PRId64 " %" PRId64 " cm: ", side, easting, northing);
-    if (refusal == 0)
+    if (refusal == LAEA_OK)
         printf("%" PRId64 " %" PRId64 "\n", out[0], out[1]);
     else
-        printf("refused %d\n", refusal);
+        printf("refused %d: %s\n", refusal, laea_refusal_text(refusal));
 }
 
-static void list(void)
+static void list(laea_set set)
 {
     const double latitudes[POINTS] = {50.0, -52.0, 91.0, NAN};
     const double longitudes[POINTS] = {5.0, -170.0, 5.0, 5.0};
     double eastings[POINTS], northings[POINTS];
     uint8_t marks[POINTS];
-    int64_t count = laea_forward_list(LAEA_ETRS_LAEA, latitudes, POINTS, longitudes, POINTS,
-                                      eastings, POINTS, northings, POINTS, marks, POINTS);
+    uint64_t count = 0;
+    uint8_t refusal = laea_forward_list(set, latitudes, POINTS, longitudes, POINTS, eastings, POINTS,
+                                        northings, POINTS, marks, POINTS, &count);
 
-    if (count < 0) {
-        printf("list: refused %" PRId64 "\n", -count);
+    if (refusal != LAEA_OK) {
+        printf("list: refused %d: %s\n", refusal, laea_refusal_text(refusal));
         return;
     }
-    printf("list of %d: %" PRId64 " with an answer\n", POINTS, count);
+    printf("list of %d: %" PRIu64 " with an answer\n", POINTS, count);
     for (size_t i = 0; i < POINTS; i++)
-        printf("  %.1f %.1f: mark %d, E %.2f m, N %.2f m\n", latitudes[i], longitudes[i], marks[i],
-               eastings[i], northings[i]);
+        printf("  %.1f %.1f: E %.2f m, N %.2f m, %s\n", latitudes[i], longitudes[i], eastings[i],
+               northings[i], laea_refusal_text(marks[i]));
 }
 
-/* The lists' lengths differ, and an empty list. */
-static void other_lists(void)
+/* A refused list call writes nothing; and an empty list. */
+static void other_lists(laea_set set)
 {
     const double one[1] = {50.0};
     double first[1] = {-1.0}, second[1] = {-1.0};
     uint8_t mark[1] = {9};
-    int64_t result = laea_forward_list(LAEA_ETRS_LAEA, one, 1, one, 1, first, 1, second, 0, mark, 1);
+    uint64_t count = 77;
+    uint8_t refusal = laea_forward_list(set, one, 1, one, 1, first, 1, second, 0, mark, 1, &count);
 
-    printf("lists of unequal length: %" PRId64 ", and the marks hold %d still\n", result, mark[0]);
-    result = laea_inverse_list(LAEA_ETRS_LAEA, NULL, 0, NULL, 0, NULL, 0, NULL, 0, NULL, 0);
-    printf("empty lists, by null pointers: %" PRId64 "\n", result);
+    printf("lists of unequal length: refused %d: %s; the mark is %d still, the count %" PRIu64 "\n",
+           refusal, laea_refusal_text(refusal), mark[0], count);
+    refusal = laea_inverse_list(set, NULL, 0, NULL, 0, NULL, 0, NULL, 0, NULL, 0, &count);
+    printf("empty lists, by null pointers: %s, %" PRIu64 " with an answer\n",
+           laea_refusal_text(refusal), count);
 }
 
 int main(void)
 {
-    forward(50.0, 5.0);
-    inverse(3962799.45, 2999718.85);
-    forward(-52.0, -170.0);
-    forward(90.5, 5.0);
-    whole(180000000, 18000000);
-    list();
-    other_lists();
+    /* a set of one's own: a copy of an accepted one, with the fields that differ */
+    laea_set alps = LAEA_ETRS_LAEA;
+    alps.lat0 = INT64_C(47) * 3600000;
+    alps.lon0 = INT64_C(11) * 3600000;
+    laea_set beyond = LAEA_SPHERE;
+    beyond.lat0 = INT64_C(306000001);
+
+    printf("header %d, archive %" PRIu32 "\n", LAEA_VERSION, laea_version());
+    forward(LAEA_ETRS_LAEA, 50.0, 5.0);
+    inverse(LAEA_ETRS_LAEA, 3962799.45, 2999718.85);
+    forward(LAEA_ETRS_LAEA, -52.0, -170.0);
+    forward(LAEA_ETRS_LAEA, 90.5, 5.0);
+    forward(alps, 47.0, 11.0);
+    forward(LAEA_SPHERE, 0.0, 90.0);
+    forward(beyond, 0.0, 90.0);
+    printf("a centre beyond 85 N: %s\n", laea_refusal_text(laea_set_refusal(beyond)));
+    whole(LAEA_ETRS_LAEA, 180000000, 18000000);
+    list(LAEA_ETRS_LAEA);
+    other_lists(LAEA_ETRS_LAEA);
     cell(100000, 396279945, 299971885);
     cell(50000, 396279945, 299971885);
+    printf("refusal 7: %s\n", laea_refusal_text(7));
     return 0;
 }

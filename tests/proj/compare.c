@@ -22,9 +22,9 @@ static const double BOUND_MAS = 20.0;
 typedef struct {
     const char *name;
     int64_t a, e2, lat0, lon0, false_easting, false_northing;
-} Set;
+} Case;
 
-static const Set SETS[] = {
+static const Case CASES[] = {
     {"ETRS-LAEA", 637813700, 6694380, 187200000, 36000000, 432100000, 321000000},
     {"oblique, 45 S 170 E", 637813700, 6694380, -162000000, 612000000, 0, 0},
     {"oblique, 85 N 100 W", 637813700, 6694380, 306000000, -360000000, 0, 0},
@@ -73,7 +73,19 @@ static double radians(double degrees)
     return degrees * PI / 180;
 }
 
-static PJ *projection(const Set *s)
+static laea_set set_of(const Case *s)
+{
+    laea_set set = LAEA_SPHERE;
+    set.a = s->a;
+    set.e2 = s->e2;
+    set.lat0 = s->lat0;
+    set.lon0 = s->lon0;
+    set.false_easting = s->false_easting;
+    set.false_northing = s->false_northing;
+    return set;
+}
+
+static PJ *projection(const Case *s)
 {
     char text[300];
     snprintf(text, sizeof text,
@@ -87,7 +99,7 @@ static PJ *projection(const Set *s)
 }
 
 /* A position on a whole mas, evenly spread over the region's area, at most 90 degrees from the centre. */
-static void draw(const Set *s, const Region *r, double *lat, double *lon)
+static void draw(const Case *s, const Region *r, double *lat, double *lon)
 {
     double low = sin(radians(r->south)), high = sin(radians(r->north));
     double lat0 = radians(s->lat0 / MAS), lon0 = s->lon0 / MAS;
@@ -108,15 +120,17 @@ static void keep(double *worst, double value)
 }
 
 /* One list there, then PROJ's plane positions, brought to whole cm, back by both. */
-static void compare_list(const Set *s, const Region *r, PJ *p, Worst *worst)
+static void compare_list(const Case *s, const Region *r, PJ *p, Worst *worst)
 {
     static double lat[LIST], lon[LIST], easting[LIST], northing[LIST];
     static double x[LIST], y[LIST], back_lat[LIST], back_lon[LIST];
     static uint8_t marks[LIST];
+    laea_set set = set_of(s);
+    uint64_t count = 0;
     for (int i = 0; i < LIST; i++)
         draw(s, r, &lat[i], &lon[i]);
-    if (laea_forward_list(s->a, s->e2, s->lat0, s->lon0, s->false_easting, s->false_northing, lat,
-                          LIST, lon, LIST, easting, LIST, northing, LIST, marks, LIST) != LIST)
+    if (laea_forward_list(set, lat, LIST, lon, LIST, easting, LIST, northing, LIST, marks, LIST,
+                          &count) != LAEA_OK || count != LIST)
         stop("a point was refused by laea_forward_list");
     for (int i = 0; i < LIST; i++) {
         PJ_COORD c = proj_trans(p, PJ_FWD, proj_coord(radians(lon[i]), radians(lat[i]), 0, 0));
@@ -124,8 +138,8 @@ static void compare_list(const Set *s, const Region *r, PJ *p, Worst *worst)
         x[i] = round(c.xy.x * 100) / 100;
         y[i] = round(c.xy.y * 100) / 100;
     }
-    if (laea_inverse_list(s->a, s->e2, s->lat0, s->lon0, s->false_easting, s->false_northing, x,
-                          LIST, y, LIST, back_lat, LIST, back_lon, LIST, marks, LIST) != LIST)
+    if (laea_inverse_list(set, x, LIST, y, LIST, back_lat, LIST, back_lon, LIST, marks, LIST,
+                          &count) != LAEA_OK || count != LIST)
         stop("a point was refused by laea_inverse_list");
     for (int i = 0; i < LIST; i++) {
         PJ_COORD c = proj_trans(p, PJ_INV, proj_coord(x[i], y[i], 0, 0));
@@ -135,7 +149,7 @@ static void compare_list(const Set *s, const Region *r, PJ *p, Worst *worst)
     }
 }
 
-static int compare(const Set *s, const Region *r)
+static int compare(const Case *s, const Region *r)
 {
     Worst worst = {0, 0, 0};
     PJ *p = projection(s);
@@ -159,9 +173,9 @@ int main(void)
     printf("times the cosine of the latitude (bound %g each).\n\n", BOUND_MAS);
     printf("%-29s %-11s %12s %13s %14s\n", "centre", "region", "forward, m", "latitude, mas",
            "longitude, mas");
-    good &= compare(&SETS[0], &EUROPE);
-    for (size_t i = 0; i < sizeof SETS / sizeof SETS[0]; i++)
-        good &= compare(&SETS[i], &HALF_GLOBE);
+    good &= compare(&CASES[0], &EUROPE);
+    for (size_t i = 0; i < sizeof CASES / sizeof CASES[0]; i++)
+        good &= compare(&CASES[i], &HALF_GLOBE);
     printf("\n%s\n", good ? "All within their bounds." : "A difference is above its bound.");
     return good ? 0 : 1;
 }

@@ -35,12 +35,9 @@ pub extern "C" fn laea1_forward(set: Set, latitude: f64, longitude: f64, out: &m
 
 // Metres to degrees: latitude and longitude.
 #[no_mangle]
-pub extern "C" fn laea1_inverse(set: Set, easting: f64, northing: f64, out: &mut [f64; 2]) -> u8
-    ensures { λ r. ⌜ AnswersFloats (inverseRow (setOf set) (metres easting northing)) (now (out .entry)) (now (out .exit)) r ⌝ }
+pub extern "C" fn laea1_inverse(set: Set, first: f64, second: f64, out: &mut [f64; 2]) -> u8
+    ensures { λ r. ⌜ AnswersFloats (inverseRow (setOf set) (metres first second)) (now (out .entry)) (now (out .exit)) r ⌝ }
 {
-    let at = PlanePair {
-        first: easting,
-        second: northing,
-    };
+    let at = PlanePair { first, second };
     answer_floats(geodetic_row(inverse_metres(parameters_of(set), at)), out)
 }

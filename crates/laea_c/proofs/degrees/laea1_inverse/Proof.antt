@@ -25,7 +25,7 @@ returns c =
     let call = row .before in
     let set = call .before in
     let x = set .before .args in
-    let set-is = ap (λ (p : Parameters). inverseRow p (metres (x .easting) (x .northing))) (set .parameters-of .ensures) in
+    let set-is = ap (λ (p : Parameters). inverseRow p (metres (x .first) (x .second))) (set .parameters-of .ensures) in
     floats-answered (row .geodetic-row .ensures ∙ call .inverse-metres .ensures .1 ∙ set-is) (c .answer-floats .ensures)
 
 pub laea1-inverse-spec : {M : Type 1} → statement M
