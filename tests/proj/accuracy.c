@@ -121,7 +121,7 @@ static int print_table(const char *name, Measure *measure, const Row *rows, int 
 int main(void)
 {
     static const Row FORWARD[] = {{&EUROPE, 0.17, 0.065}, {&HALF_GLOBE, 0.53, 0.19}, {&ACCEPTED, 10.5, 0.8}};
-    static const Row INVERSE[] = {{&EUROPE, 0.12, 0.05}, {&HALF_GLOBE, 0.4, 0.12}, {&ACCEPTED, 3, 0.35}};
+    static const Row INVERSE[] = {{&EUROPE, 0.14, 0.05}, {&HALF_GLOBE, 0.4, 0.12}, {&ACCEPTED, 3, 0.35}};
     static const Row RETURN[] = {{&EUROPE, 0.14, 0.03}, {&HALF_GLOBE, 0.5, 0.14}, {&ACCEPTED, 110, 5.5}};
     static const Row LATITUDE[] = {{&HALF_GLOBE, 16, 4}};
     static const Row LONGITUDE[] = {{&HALF_GLOBE, 8, 2}};

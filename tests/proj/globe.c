@@ -4,8 +4,6 @@
 
 #include "globe.h"
 
-static const double PI = 3.14159265358979323846;
-
 const Region EUROPE = {"Europe", 34, 72, -25, 45, 0};
 const Region HALF_GLOBE = {"half globe", -90, 90, -180, 180, 1};
 const Region ACCEPTED = {"all accepted", -90, 90, -180, 180, 0};
@@ -18,7 +16,7 @@ void stop(const char *why)
 
 double radians(double degrees)
 {
-    return degrees * PI / 180;
+    return proj_torad(degrees);
 }
 
 double fraction(void)
@@ -82,7 +80,7 @@ void draw(laea_set set, const Region *region, double *latitude, double *longitud
 {
     double low = sin(radians(region->south)), high = sin(radians(region->north));
     do {
-        *latitude = whole_mas(asin(low + (high - low) * fraction()) * 180 / PI);
+        *latitude = whole_mas(proj_todeg(asin(low + (high - low) * fraction())));
         *longitude = whole_mas(region->west + (region->east - region->west) * fraction());
     } while (!is_inside(set, region, *latitude, *longitude));
 }
@@ -98,7 +96,8 @@ static void check(uint8_t refusal, const uint8_t *marks, size_t length)
             stop("a position was refused with another number than 4");
 }
 
-/* Forward gives refusal 4 for a nearness below 20,000,000, and only there; too near to it to tell apart. */
+/* Forward gives refusal 4 for a nearness below 20,000,000 and only there; so near that a double
+ * cannot tell, either is right. */
 static void check_nearness(laea_set set, double latitude, double longitude, uint8_t mark)
 {
     double over = nearness(set, latitude, longitude) - 0.02;
@@ -128,6 +127,12 @@ static void inverse(laea_set set, const double *eastings, const double *northing
     check(refusal, marks, length);
 }
 
+/* NaN says refused with 4; an answer that is a NaN becomes infinity, which is above any bound. */
+static double unless_refused(uint8_t mark, double value)
+{
+    return mark ? NAN : isnan(value) ? INFINITY : value;
+}
+
 /* The size of the difference of two longitudes, in degrees. */
 static double turn(double longitude, double other)
 {
@@ -151,12 +156,13 @@ void forward_distance(laea_set set, PJ *proj, const double *latitudes, const dou
     for (size_t i = 0; i < length; i++) {
         PJ_COORD c = proj_coord(radians(longitudes[i]), radians(latitudes[i]), 0, 0);
         c = proj_trans(proj, PJ_FWD, c);
-        values[i] = marks[i] ? NAN : hypot(eastings[i] - c.xy.x, northings[i] - c.xy.y);
+        double metres = hypot(eastings[i] - c.xy.x, northings[i] - c.xy.y);
+        values[i] = unless_refused(marks[i], metres);
     }
 }
 
-void inverse_distance(laea_set set, PJ *proj, const double *latitudes, const double *longitudes,
-                      size_t length, double *values)
+void inverse_gaps(laea_set set, PJ *proj, const double *latitudes, const double *longitudes,
+                  size_t length, double *norths, double *easts)
 {
     static double eastings[LIST], northings[LIST], back_latitudes[LIST], back_longitudes[LIST];
     static uint8_t marks[LIST];
@@ -169,10 +175,19 @@ void inverse_distance(laea_set set, PJ *proj, const double *latitudes, const dou
     inverse(set, eastings, northings, length, back_latitudes, back_longitudes, marks);
     for (size_t i = 0; i < length; i++) {
         PJ_COORD c = proj_trans(proj, PJ_INV, proj_coord(eastings[i], northings[i], 0, 0));
-        double latitude = c.lp.phi * 180 / PI, longitude = c.lp.lam * 180 / PI;
-        double north = back_latitudes[i] - latitude, east = turn(longitude, back_longitudes[i]);
-        values[i] = marks[i] ? NAN : ground(set, latitude, north, east);
+        double latitude = proj_todeg(c.lp.phi), longitude = proj_todeg(c.lp.lam);
+        norths[i] = unless_refused(marks[i], fabs(back_latitudes[i] - latitude));
+        easts[i] = unless_refused(marks[i], turn(longitude, back_longitudes[i]));
     }
+}
+
+void inverse_distance(laea_set set, PJ *proj, const double *latitudes, const double *longitudes,
+                      size_t length, double *values)
+{
+    static double easts[LIST];
+    inverse_gaps(set, proj, latitudes, longitudes, length, values, easts);
+    for (size_t i = 0; i < length; i++)
+        values[i] = ground(set, latitudes[i], values[i], easts[i]);
 }
 
 /* There and back by the archive: the sizes of the two differences in degrees, NaN where refused. */
@@ -184,9 +199,9 @@ static void there_and_back(laea_set set, const double *latitudes, const double *
     forward(set, latitudes, longitudes, length, eastings, northings, there);
     inverse(set, eastings, northings, length, back_latitudes, back_longitudes, back);
     for (size_t i = 0; i < length; i++) {
-        int refused = there[i] || back[i];
-        norths[i] = refused ? NAN : fabs(back_latitudes[i] - latitudes[i]);
-        easts[i] = refused ? NAN : turn(longitudes[i], back_longitudes[i]);
+        uint8_t mark = there[i] ? there[i] : back[i];
+        norths[i] = unless_refused(mark, fabs(back_latitudes[i] - latitudes[i]));
+        easts[i] = unless_refused(mark, turn(longitudes[i], back_longitudes[i]));
     }
 }
 

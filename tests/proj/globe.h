@@ -51,9 +51,14 @@ double whole_mas(double degrees);
 typedef void Measure(laea_set set, PJ *proj, const double *latitudes, const double *longitudes,
                      size_t length, double *values);
 
+/* Inverse, for PROJ's plane position in whole cm: how far the archive's answer and PROJ's are apart, in
+ * degrees of latitude and of longitude; NaN where the call refuses it with 4. */
+void inverse_gaps(laea_set set, PJ *proj, const double *latitudes, const double *longitudes,
+                  size_t length, double *norths, double *easts);
+
 /* Forward: metres on the map between the archive's answer and PROJ's. */
 Measure forward_distance;
-/* Inverse, for PROJ's plane position in whole cm: metres on the ground between the two answers. */
+/* The gaps of inverse_gaps in metres on the ground. */
 Measure inverse_distance;
 /* There and back by the archive, against the position put in: metres on the ground; the gap of the
  * latitude in mas; the gap of the longitude in mas, times the cosine of the authalic latitude. */
