@@ -17,7 +17,10 @@
  * is rounded to the nearest mas or cm, halves away from zero; an answer is the whole number divided
  * by 3,600,000 or 100. North and east are positive.
  *
- * Accuracy: see README.
+ * Accuracy. An answer is that of the whole-number steps, to the last unit; the steps themselves are
+ * not the exact projection. Measured against PROJ for ETRS-LAEA, a forward answer is at most 0.16 m
+ * from it in Europe, 0.51 m within 90 degrees of the centre and 9.6 m over all accepted positions;
+ * an inverse answer 0.13 m, 0.35 m and 2.5 m. There and back within 90 degrees of the centre, 0.44 m.
  *
  * The parameter set says which ellipsoid and which centre; see laea_set below. LAEA_ETRS_LAEA is the
  * set of ETRS89 / ETRS-LAEA (EPSG 3035).
