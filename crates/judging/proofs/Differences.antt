@@ -1,7 +1,7 @@
 -- The size of a difference by the sizes of the two numbers: on one side of 0 the smaller is taken from the larger, and where they lie on
 -- both sides the sizes add up. Each number is read as the difference of two naturals, one of which is 0, and `omega` does the rest.
 -- Assumes nothing.
-use mathlib.Core.Path.{_≡_, sym}
+use mathlib.Core.Path.{_≡_, sym, ap₂, _∙_}
 use mathlib.Core.Bool.{Bool, true, false, Bool·beq}
 use Prim.Native.Nat.{ℕ, _+_, _-_, _<_, _^_}
 use native.Mathlib.Omega.{arith}
@@ -11,6 +11,8 @@ use lib.IntN.{ℤ, pos, negsuc, natAbs, _-ℤ_}
 use lib.Signed.{ltZ}
 use mir.Syntax.{w64}
 use mir.Val.{SFits}
+use mir.Facts.{toZ-ofZ}
+use Rattle.billionths.proofs.Calls.{back}
 use Rattle.proof_kit.proofs.Laws.{one-part, natAbs-parts, parts--}
 
 -- whether both are negative, or neither
@@ -46,3 +48,9 @@ sum-fits (pos a) (negsuc b) f g e = omega (arith, f .sfits, g .sfits)
 sum-fits (negsuc a) (pos b) f g e = omega (arith, f .sfits, g .sfits)
 sum-fits (pos a) (pos b) f g e = absurd (never (simp natural at e))
 sum-fits (negsuc a) (negsuc b) f g e = absurd (never e)
+
+-- ---- numbers that are passed on
+
+-- the gap of two numbers that are read back
+pub gap-is : {r : ℕ} (x y : ℤ) → SFits w64 x → SFits w64 y → r ≡ natAbs (back x -ℤ back y) → r ≡ natAbs (x -ℤ y)
+gap-is x y f g e = e ∙ ap₂ (λ (v w : ℤ). natAbs (v -ℤ w)) (toZ-ofZ f) (toZ-ofZ g)

@@ -1,36 +1,27 @@
 // ETRS-LAEA with one field, or one coordinate, out of its limits: refused, never wrapped.
+use crate::names;
+use crate::names::name;
+use crate::rows::forward_of;
+use crate::rows::inverse_of;
 use crate::rows::refused_row;
 use crate::rows::set;
 use parameters::Parameters;
-use printing::line;
 use printing::value;
+use units::refusals::BAD_SET;
+use units::refusals::OUT_OF_LIMITS;
 
-const LEAST: i64 = -9223372036854775808;
+const LEAST: i64 = -9_223_372_036_854_775_808;
 
-const MOST: i64 = 9223372036854775807;
+const MOST: i64 = 9_223_372_036_854_775_807;
 
-// The fields of a set by their numbers, then what stands before a row.
-fn name(k: usize) {
-    line(
-        b"a
-e2
-lat0
-lon0
-FE
-FN
-   
-ETRS-LAEA",
-        k,
-    );
-}
+// The centre and the false origin.
+const LAT0: i64 = 187_200_000;
 
-// Both directions are refused 1.
-fn refused(p: Parameters) {
-    name(6);
-    refused_row(true, p, 187200000, 36000000, 1);
-    name(6);
-    refused_row(false, p, 432100000, 321000000, 1);
-}
+const LON0: i64 = 36_000_000;
+
+const FALSE_EASTING: i64 = 432_100_000;
+
+const FALSE_NORTHING: i64 = 321_000_000;
 
 // The new number for the field that is bad, and its own for any other.
 fn field(bad: usize, k: usize, new: i64, own: i64) -> i64 {
@@ -40,51 +31,53 @@ fn field(bad: usize, k: usize, new: i64, own: i64) -> i64 {
     own
 }
 
+// Both directions are refused 1. A field is told by its name.
 fn bad_field(k: usize, z: i64) {
     name(k);
     value(z);
-    let p = Parameters::etrs_laea();
-    let lat0 = p.lat0;
-    refused(set(
-        field(0, k, z, p.a),
-        field(1, k, z, p.e2),
-        field(2, k, z, lat0.0),
-        field(3, k, z, p.lon0),
-        field(4, k, z, p.false_easting),
-        field(5, k, z, p.false_northing),
-    ));
-}
-
-// Forward or inverse, refused 3.
-fn bad_point(forward: bool, x: i64, y: i64) {
-    name(7);
-    refused_row(forward, Parameters::etrs_laea(), x, y, 3);
+    let own = Parameters::etrs_laea();
+    let p = set(
+        field(names::A, k, z, own.a),
+        field(names::E2, k, z, own.e2),
+        field(names::LAT0, k, z, LAT0),
+        field(names::LON0, k, z, LON0),
+        field(names::FALSE_EASTING, k, z, FALSE_EASTING),
+        field(names::FALSE_NORTHING, k, z, FALSE_NORTHING),
+    );
+    let k = names::BAD_SET;
+    refused_row(k, forward_of(p, LAT0, LON0), BAD_SET);
+    refused_row(k, inverse_of(p, FALSE_EASTING, FALSE_NORTHING), BAD_SET);
 }
 
 // Each coordinate in turn.
 fn bad_position(lat: i64, lon: i64) {
-    bad_point(true, lat, 36000000);
-    bad_point(true, 187200000, lon);
+    let p = Parameters::etrs_laea();
+    let k = names::ETRS_LAEA;
+    refused_row(k, forward_of(p, lat, LON0), OUT_OF_LIMITS);
+    refused_row(k, forward_of(p, LAT0, lon), OUT_OF_LIMITS);
 }
 
 fn bad_plane(z: i64) {
-    bad_point(false, z, 321000000);
-    bad_point(false, 432100000, z);
+    let p = Parameters::etrs_laea();
+    let k = names::ETRS_LAEA;
+    refused_row(k, inverse_of(p, z, FALSE_NORTHING), OUT_OF_LIMITS);
+    refused_row(k, inverse_of(p, FALSE_EASTING, z), OUT_OF_LIMITS);
 }
 
-fn every_field(z: i64) {
-    bad_field(0, z);
-    bad_field(1, z);
-    bad_field(2, z);
-    bad_field(3, z);
-    bad_field(4, z);
-    bad_field(5, z);
+// In every field.
+fn bad_fields(z: i64) {
+    bad_field(names::A, z);
+    bad_field(names::E2, z);
+    bad_field(names::LAT0, z);
+    bad_field(names::LON0, z);
+    bad_field(names::FALSE_EASTING, z);
+    bad_field(names::FALSE_NORTHING, z);
 }
 
 // The least and the greatest i64 in every field and every coordinate.
 pub(crate) fn extremes() {
-    every_field(LEAST);
-    every_field(MOST);
+    bad_fields(LEAST);
+    bad_fields(MOST);
     bad_position(LEAST, LEAST);
     bad_position(MOST, MOST);
     bad_plane(LEAST);
@@ -93,18 +86,18 @@ pub(crate) fn extremes() {
 
 // The first value that is out, on each side of each limit.
 pub(crate) fn edges() {
-    bad_field(0, 99999999);
-    bad_field(0, 1000000001);
-    bad_field(1, -1);
-    bad_field(1, 10000001);
-    bad_field(2, 306000001);
-    bad_field(2, -323999999);
-    bad_field(3, -648000000);
-    bad_field(3, 648000001);
-    bad_field(4, -1000000001);
-    bad_field(5, 1000000001);
-    bad_position(-324000001, -648000001);
-    bad_position(324000001, 648000001);
-    bad_plane(-5000000001);
-    bad_plane(5000000001);
+    bad_field(names::A, 99_999_999);
+    bad_field(names::A, 1_000_000_001);
+    bad_field(names::E2, -1);
+    bad_field(names::E2, 10_000_001);
+    bad_field(names::LAT0, 306_000_001);
+    bad_field(names::LAT0, -323_999_999);
+    bad_field(names::LON0, -648_000_000);
+    bad_field(names::LON0, 648_000_001);
+    bad_field(names::FALSE_EASTING, -1_000_000_001);
+    bad_field(names::FALSE_NORTHING, 1_000_000_001);
+    bad_position(-324_000_001, -648_000_001);
+    bad_position(324_000_001, 648_000_001);
+    bad_plane(-5_000_000_001);
+    bad_plane(5_000_000_001);
 }

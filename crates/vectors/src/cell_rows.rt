@@ -1,94 +1,119 @@
 // Cells of every side, on both sides of 0 and of the limit.
-use crate::rows::Answer;
-use crate::rows::at;
-use crate::rows::refused;
 use cells::CellAnswer;
 use cells::cell;
+use judging::gaps::Answer;
+use judging::gaps::accepted;
+use judging::gaps::gaps_of;
+use judging::gaps::is_right;
+use judging::gaps::refused;
 use printing::number;
 use printing::refusal;
 use printing::verdict;
 use printing::words;
 use printing::words::word;
+use units::PLANE_LEAST;
+use units::PLANE_MOST;
+use units::refusals::OUT_OF_LIMITS;
+ghost use mathlib.Core.Path.{_≡_};
+ghost use Rattle.judging.specs.Gaps.{toldOf};
+ghost use Rattle.cells.specs.Cells.{cellTold};
+ghost use Rattle.vectors.specs.Rows.{cellAt, isNear};
 
-const LEAST: i64 = -9223372036854775808;
+const LEAST: i64 = -9_223_372_036_854_775_808;
 
-fn asked(side: i64, easting: i64, northing: i64) {
-    word(words::CELL);
-    number(side);
-    number(easting);
-    number(northing);
-    word(words::ANSWER);
+// Document 001's false origin.
+const EASTING: i64 = 432_100_000;
+
+const NORTHING: i64 = 321_000_000;
+
+// What is asked.
+struct Question {
+    side: i64,
+    easting: i64,
+    northing: i64,
 }
 
-fn call(side: i64, easting: i64, northing: i64) -> Answer {
-    let found = cell(side, easting, northing);
+fn at(side: i64, easting: i64, northing: i64) -> Question
+    ensures { λ r. ⌜ r ≡ cellAt side easting northing ⌝ }
+{
+    Question {
+        side,
+        easting,
+        northing,
+    }
+}
+
+fn answer(q: Question) -> Answer
+    ensures { λ r. ⌜ toldOf r ≡ cellTold (q .side) (q .easting) (q .northing) ⌝ }
+{
+    let found = cell(q.side, q.easting, q.northing);
     match found {
-        CellAnswer::Cell { east, north } => at(east, north),
+        CellAnswer::Cell { east, north } => accepted(east, north),
         CellAnswer::Refused(number) => refused(number),
     }
 }
 
+fn asked(q: Question) {
+    word(words::CELL);
+    number(q.side);
+    number(q.easting);
+    number(q.northing);
+    word(words::ANSWER);
+}
+
 fn show(a: Answer) {
-    if a.mark != 0 {
-        refusal(a.mark);
+    if a.refusal != 0 {
+        refusal(a.refusal);
         return;
     }
-    number(a.x);
-    number(a.y);
+    number(a.first);
+    number(a.second);
 }
 
-fn are_alike(a: Answer, b: Answer) -> bool {
-    if a.mark != b.mark {
-        return false;
-    }
-    if a.x != b.x {
-        return false;
-    }
-    a.y == b.y
-}
-
-fn compare(side: i64, easting: i64, northing: i64, right: Answer) {
-    asked(side, easting, northing);
-    let found = call(side, easting, northing);
+fn row(q: Question, right: Answer) -> bool
+    ensures { λ r. ⌜ r ≡ isNear 0 (cellTold (q .side) (q .easting) (q .northing)) (toldOf right) ⌝ }
+{
+    asked(q);
+    let found = answer(q);
     show(found);
     word(words::EXPECTED);
     show(right);
-    verdict(are_alike(found, right));
-}
-
-fn row(side: i64, easting: i64, northing: i64, east: i64, north: i64) {
-    compare(side, easting, northing, at(east, north));
-}
-
-fn refused_row(side: i64, easting: i64, northing: i64) {
-    compare(side, easting, northing, refused(3));
+    verdict(is_right(found, right, gaps_of(found, right), 0))
 }
 
 pub(crate) fn sides() {
-    row(10000, 432100000, 321000000, 43210, 32100);
-    row(100000, 432100000, 321000000, 4321, 3210);
-    row(1000000, 432100000, 321000000, 432, 321);
-    refused_row(1000, 432100000, 321000000);
-    refused_row(0, 432100000, 321000000);
-    refused_row(-10000, 432100000, 321000000);
-    refused_row(LEAST, 432100000, 321000000);
+    row(at(10_000, EASTING, NORTHING), accepted(43_210, 32_100));
+    row(at(100_000, EASTING, NORTHING), accepted(4_321, 3_210));
+    row(at(1_000_000, EASTING, NORTHING), accepted(432, 321));
+    let right = refused(OUT_OF_LIMITS);
+    row(at(1_000, EASTING, NORTHING), right);
+    row(at(0, EASTING, NORTHING), right);
+    row(at(-10_000, EASTING, NORTHING), right);
+    row(at(LEAST, EASTING, NORTHING), right);
 }
 
 // The fraction is dropped: −1 cm lies in cell 0.
 pub(crate) fn below_zero() {
-    row(10000, -1, 9999, 0, 0);
-    row(10000, -9999, -10000, 0, -1);
-    row(100000, -19999999, 19999999, -199, 199);
-    row(1000000, -1000000, -1999999, -1, -1);
+    row(at(10_000, -1, 9_999), accepted(0, 0));
+    row(at(10_000, -9_999, -10_000), accepted(0, -1));
+    row(at(100_000, -19_999_999, 19_999_999), accepted(-199, 199));
+    row(at(1_000_000, -1_000_000, -1_999_999), accepted(-1, -1));
 }
 
 pub(crate) fn limits() {
-    row(10000, 5000000000, -5000000000, 500000, -500000);
-    row(1000000, -5000000000, 5000000000, -5000, 5000);
-    refused_row(10000, 5000000001, 0);
-    refused_row(10000, 0, 5000000001);
-    refused_row(100000, -5000000001, 0);
-    refused_row(100000, 0, -5000000001);
-    refused_row(1000000, LEAST, 0);
-    refused_row(1000000, 0, LEAST);
+    row(
+        at(10_000, PLANE_MOST, PLANE_LEAST),
+        accepted(500_000, -500_000),
+    );
+    row(
+        at(1_000_000, PLANE_LEAST, PLANE_MOST),
+        accepted(-5_000, 5_000),
+    );
+    let right = refused(OUT_OF_LIMITS);
+    row(at(10_000, 5_000_000_001, 0), right);
+    row(at(10_000, 0, 5_000_000_001), right);
+    row(at(100_000, -5_000_000_001, 0), right);
+    row(at(100_000, 0, -5_000_000_001), right);
+    row(at(1_000_000, LEAST, 0), right);
+    row(at(1_000_000, 0, LEAST), right);
 }

@@ -1,23 +1,14 @@
 // The centre goes to the false origin and comes back, to the last unit.
-use crate::rows::forward_row;
-use crate::rows::inverse_row;
+use crate::names;
+use crate::rows::forward_of;
+use crate::rows::inverse_of;
+use crate::rows::row;
 use crate::rows::set;
+use judging::gaps::accepted;
 use parameters::Parameters;
-use printing::line;
 
-// The names of the rows, counted from 0.
-fn name(k: usize) {
-    line(
-        b"oblique centre
-southern oblique centre
-equatorial centre
-north polar centre
-north pole at another longitude
-south polar centre
-south pole at another longitude",
-        k,
-    );
-}
+// A longitude that is no centre's.
+const ELSEWHERE: i64 = 123_456_789;
 
 fn both_ways(k: usize, p: Parameters) {
     let lat0 = p.lat0;
@@ -25,60 +16,62 @@ fn both_ways(k: usize, p: Parameters) {
     let lon = p.lon0;
     let easting = p.false_easting;
     let northing = p.false_northing;
-    name(k);
-    forward_row(p, lat, lon, easting, northing, 0);
-    name(k);
-    inverse_row(p, easting, northing, lat, lon, 0);
+    row(k, forward_of(p, lat, lon), accepted(easting, northing), 0);
+    row(k, inverse_of(p, easting, northing), accepted(lat, lon), 0);
 }
 
 // At a pole every longitude is the centre.
 fn at_pole(k: usize, p: Parameters) {
     let lat0 = p.lat0;
-    name(k);
-    forward_row(p, lat0.0, 123456789, p.false_easting, p.false_northing, 0);
+    let origin = accepted(p.false_easting, p.false_northing);
+    row(k, forward_of(p, lat0.0, ELSEWHERE), origin, 0);
 }
 
-pub(crate) fn oblique() {
-    both_ways(0, Parameters::etrs_laea());
+pub(crate) fn off_the_poles() {
+    both_ways(names::OBLIQUE_CENTRE, Parameters::etrs_laea());
     both_ways(
-        1,
+        names::SOUTHERN_OBLIQUE_CENTRE,
         set(
-            637813700,
-            6694380,
-            -305999999,
-            648000000,
-            -1000000000,
-            1000000000,
+            637_813_700,
+            6_694_380,
+            -305_999_999,
+            648_000_000,
+            -1_000_000_000,
+            1_000_000_000,
         ),
     );
-}
-
-pub(crate) fn equatorial() {
     both_ways(
-        2,
-        set(637813700, 6694380, 0, -647999999, 123456789, -987654321),
+        names::EQUATORIAL_CENTRE,
+        set(
+            637_813_700,
+            6_694_380,
+            0,
+            -647_999_999,
+            123_456_789,
+            -987_654_321,
+        ),
     );
 }
 
 pub(crate) fn polar() {
     let north = set(
-        637838800,
-        6722670,
-        324000000,
-        -360000000,
-        200000000,
-        300000000,
+        637_838_800,
+        6_722_670,
+        324_000_000,
+        -360_000_000,
+        200_000_000,
+        300_000_000,
     );
-    both_ways(3, north);
-    at_pole(4, north);
+    both_ways(names::NORTH_POLAR_CENTRE, north);
+    at_pole(names::NORTH_POLE_ELSEWHERE, north);
     let south = set(
-        637838800,
-        6722670,
-        -324000000,
-        252000000,
-        200000000,
-        -300000000,
+        637_838_800,
+        6_722_670,
+        -324_000_000,
+        252_000_000,
+        200_000_000,
+        -300_000_000,
     );
-    both_ways(5, south);
-    at_pole(6, south);
+    both_ways(names::SOUTH_POLAR_CENTRE, south);
+    at_pole(names::SOUTH_POLE_ELSEWHERE, south);
 }

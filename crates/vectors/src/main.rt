@@ -3,29 +3,35 @@ mod bad_input;
 mod cell_rows;
 mod centres;
 mod examples;
+mod names;
 mod nearness;
-mod reverse_series;
 mod rows;
-mod sizes;
+mod series_rows;
 mod words;
 
+use sine_table::Table;
 ghost use Rattle.sine_table.specs.Table.{IsTable};
 
-fn all_rows(t: &[u32; 5401])
+// The rows that take sines themselves.
+fn with_sines(t: &Table)
     requires { ⌜ IsTable (now t) ⌝ }
 {
-    words::on_numbers();
     words::sines(t);
     words::angles(t);
     examples::document_001(t);
     examples::document_004_sphere(t);
     examples::document_004_oblique(t);
     examples::document_004_polar(t);
+}
+
+fn main() {
+    let t = sine_table::table();
+    words::on_numbers();
+    with_sines(&t);
     examples::exact_rows();
-    centres::oblique();
-    centres::equatorial();
+    centres::off_the_poles();
     centres::polar();
-    nearness::forward_on_sphere(t);
+    nearness::forward_on_sphere(&t);
     nearness::inverse_on_sphere();
     nearness::oblique();
     nearness::polar();
@@ -34,10 +40,5 @@ fn all_rows(t: &[u32; 5401])
     cell_rows::sides();
     cell_rows::below_zero();
     cell_rows::limits();
-    reverse_series::rows(t);
-}
-
-fn main() {
-    let t = sine_table::table();
-    all_rows(&t);
+    series_rows::rows(&t);
 }

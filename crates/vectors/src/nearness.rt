@@ -1,79 +1,76 @@
 // Positions whose nearness G is exactly 20,000,000, which is accepted, and 19,999,999, refused 4.
 // The answers expected are those of a model of document 01's steps that shares no code with the library.
-use crate::rows::forward_row;
-use crate::rows::inverse_row;
+use crate::names;
+use crate::names::name;
+use crate::rows::forward_of;
+use crate::rows::inverse_of;
 use crate::rows::refused_row;
+use crate::rows::row;
 use crate::rows::set;
 use integers::near;
+use judging::gaps::accepted;
 use parameters::Parameters;
-use printing::line;
 use printing::value;
+use sine_table::Table;
 use trig::cosine;
+use units::refusals::TOO_FAR;
 ghost use Rattle.sine_table.specs.Table.{IsTable};
 
-// The names of the rows, counted from 0.
-fn name(k: usize) {
-    line(
-        b"cosine(606677982)
-G 20000000
-cosine(606677983)
-G 19999999
-K
-oblique G 20000000
-oblique G 19999999
-polar G 20000000
-polar G 19999999",
-        k,
-    );
-}
+// 2 U
+const TWO_UNITS: u64 = 2_000_000_000;
+
+// The X of both positions on the plane.
+const X: i64 = 1_989_974_871;
 
 // On the Equator of the sphere of 10,000 km about (0, 0), G is U + cosine(lon); X and Y are E and N.
-pub(crate) fn forward_on_sphere(t: &[u32; 5401])
+pub(crate) fn forward_on_sphere(t: &Table)
     requires { ⌜ IsTable (now t) ⌝ }
 {
-    let p = set(1000000000, 0, 0, 0, 0, 0);
-    name(0);
-    value(cosine(t, 606677982));
-    name(1);
-    forward_row(p, 0, 606677982, 1989974410, 0, 0);
-    name(2);
-    value(cosine(t, 606677983));
-    name(3);
-    refused_row(true, p, 0, 606677983, 4);
+    let p = set(1_000_000_000, 0, 0, 0, 0, 0);
+    let near_enough = 606_677_982;
+    let too_far = 606_677_983;
+    name(names::COSINE_NEAR);
+    value(cosine(t, near_enough));
+    let q = forward_of(p, 0, near_enough);
+    row(names::G_LEAST, q, accepted(1_989_974_410, 0), 0);
+    name(names::COSINE_FAR);
+    value(cosine(t, too_far));
+    refused_row(names::G_TOO_FAR, forward_of(p, 0, too_far), TOO_FAR);
 }
 
+// K = near((X² + Y²)/(2U))
 pub(crate) fn inverse_on_sphere() {
-    let p = set(1000000000, 0, 0, 0, 0, 0);
-    name(4);
-    value(near(1989974871 * 1989974871 + 113083 * 113083, 2000000000));
-    name(1);
-    inverse_row(p, 1989974871, 113083, 2332, 606677973, 0);
-    name(4);
-    value(near(1989974871 * 1989974871 + 121605 * 121605, 2000000000));
-    name(3);
-    refused_row(false, p, 1989974871, 121605, 4);
+    let p = set(1_000_000_000, 0, 0, 0, 0, 0);
+    name(names::K);
+    value(near(X * X + 113_083 * 113_083, TWO_UNITS));
+    let q = inverse_of(p, X, 113_083);
+    row(names::G_LEAST, q, accepted(2_332, 606_677_973), 0);
+    name(names::K);
+    value(near(X * X + 121_605 * 121_605, TWO_UNITS));
+    refused_row(names::G_TOO_FAR, inverse_of(p, X, 121_605), TOO_FAR);
 }
 
 pub(crate) fn oblique() {
     let p = Parameters::etrs_laea();
-    name(5);
-    forward_row(p, -187198999, -544884392, -825813202, 158738498, 0);
-    name(6);
-    refused_row(true, p, -187200000, -544884183, 4);
-    name(5);
-    inverse_row(p, 497749301, -944576625, -228367873, -616734127, 0);
-    name(6);
-    refused_row(false, p, 499661427, -944476160, 4);
+    let k = names::OBLIQUE_G_LEAST;
+    let far = names::OBLIQUE_G_TOO_FAR;
+    let q = forward_of(p, -187_198_999, -544_884_392);
+    row(k, q, accepted(-825_813_202, 158_738_498), 0);
+    refused_row(far, forward_of(p, -187_200_000, -544_884_183), TOO_FAR);
+    let back = inverse_of(p, 497_749_301, -944_576_625);
+    row(k, back, accepted(-228_367_873, -616_734_127), 0);
+    refused_row(far, inverse_of(p, 499_661_427, -944_476_160), TOO_FAR);
 }
 
 pub(crate) fn polar() {
-    let p = set(637838800, 6722670, 324000000, -360000000, 0, 0);
-    name(7);
-    forward_row(p, -282858462, 18000000, 1224656797, 328145801, 0);
-    name(8);
-    refused_row(true, p, -282858463, 18000000, 4);
-    name(7);
-    inverse_row(p, 73269173, -1265739431, -282858452, -348073370, 0);
-    name(8);
-    refused_row(false, p, 75180552, -1265627340, 4);
+    let p = set(637_838_800, 6_722_670, 324_000_000, -360_000_000, 0, 0);
+    let k = names::POLAR_G_LEAST;
+    let far = names::POLAR_G_TOO_FAR;
+    let lon = 18_000_000;
+    let q = forward_of(p, -282_858_462, lon);
+    row(k, q, accepted(1_224_656_797, 328_145_801), 0);
+    refused_row(far, forward_of(p, -282_858_463, lon), TOO_FAR);
+    let back = inverse_of(p, 73_269_173, -1_265_739_431);
+    row(k, back, accepted(-282_858_452, -348_073_370), 0);
+    refused_row(far, inverse_of(p, 75_180_552, -1_265_627_340), TOO_FAR);
 }

@@ -1,11 +1,16 @@
-// A row runs one call and prints what was asked, the answer, what was expected and how far off it is. Its name is
-// printed before it.
-use crate::sizes::along_meridian;
-use crate::sizes::along_parallel;
-use crate::sizes::gap;
+// A row runs one call and prints its name, what was asked, the answer, what was expected and how far off it is. It gives
+// back its verdict.
+use crate::names::name;
 use azimuthal_forward::PlaneAnswer;
 use azimuthal_inverse::GeodeticAnswer;
 use azimuthal_inverse::inverse;
+use judging::gaps::Answer;
+use judging::gaps::Gaps;
+use judging::gaps::accepted;
+use judging::gaps::gaps_of;
+use judging::gaps::is_right;
+use judging::gaps::on_ground;
+use judging::gaps::refused;
 use latitudes::Geodetic;
 use parameters::Parameters;
 use printing::number;
@@ -14,6 +19,12 @@ use printing::size;
 use printing::verdict;
 use printing::words;
 use printing::words::word;
+ghost use mathlib.Core.Path.{_≡_};
+ghost use Rattle.units.specs.Answers.{refused};
+ghost use Rattle.judging.specs.Gaps.{toldOf};
+ghost use Rattle.azimuthal_forward.specs.Answer.{forwardTold};
+ghost use Rattle.azimuthal_inverse.specs.Answer.{inverseTold};
+ghost use Rattle.vectors.specs.Rows.{setOf, toldBy, isNear, isNearOnGround, forwardOf, inverseOf};
 
 // A set by its numbers, in the order of document 01's table.
 pub(crate) fn set(
@@ -23,7 +34,9 @@ pub(crate) fn set(
     lon0: i64,
     false_easting: i64,
     false_northing: i64,
-) -> Parameters {
+) -> Parameters
+    ensures { λ r. ⌜ r ≡ setOf a e2 lat0 lon0 «false_easting» «false_northing» ⌝ }
+{
     Parameters {
         a,
         e2,
@@ -34,187 +47,149 @@ pub(crate) fn set(
     }
 }
 
-// Two numbers and the mark 0, or the number of the refusal.
-pub(crate) struct Answer {
-    pub(crate) mark: u8,
-    pub(crate) x: i64,
-    pub(crate) y: i64,
+// What is asked: latitude and longitude forward, or easting and northing inverse.
+pub(crate) struct Question {
+    pub(crate) forward: bool,
+    pub(crate) set: Parameters,
+    pub(crate) first: i64,
+    pub(crate) second: i64,
 }
 
-pub(crate) fn at(x: i64, y: i64) -> Answer {
-    Answer { mark: 0, x, y }
+pub(crate) fn forward_of(set: Parameters, lat: i64, lon: i64) -> Question
+    ensures { λ r. ⌜ r ≡ forwardOf set lat lon ⌝ }
+{
+    Question {
+        forward: true,
+        set,
+        first: lat,
+        second: lon,
+    }
 }
 
-pub(crate) fn refused(mark: u8) -> Answer {
-    Answer { mark, x: 0, y: 0 }
+pub(crate) fn inverse_of(set: Parameters, easting: i64, northing: i64) -> Question
+    ensures { λ r. ⌜ r ≡ inverseOf set easting northing ⌝ }
+{
+    Question {
+        forward: false,
+        set,
+        first: easting,
+        second: northing,
+    }
 }
 
-fn plane_answer(found: PlaneAnswer) -> Answer {
+fn forward_answer(p: Parameters, lat: Geodetic, lon: i64) -> Answer
+    ensures { λ r. ⌜ toldOf r ≡ forwardTold p lat lon ⌝ }
+{
+    let found = azimuthal_forward::forward(p, lat, lon);
     match found {
-        PlaneAnswer::Plane { easting, northing } => at(easting, northing),
+        PlaneAnswer::Plane { easting, northing } => accepted(easting, northing),
         PlaneAnswer::Refused(number) => refused(number),
     }
 }
 
-fn position_answer(found: GeodeticAnswer) -> Answer {
+fn inverse_answer(p: Parameters, easting: i64, northing: i64) -> Answer
+    ensures { λ r. ⌜ toldOf r ≡ inverseTold p easting northing ⌝ }
+{
+    let found = inverse(p, easting, northing);
     match found {
         GeodeticAnswer::Position {
             latitude,
             longitude,
-        } => at(latitude.0, longitude),
+        } => accepted(latitude.0, longitude),
         GeodeticAnswer::Refused(number) => refused(number),
     }
 }
 
-// Forward or inverse.
-fn call(forward: bool, p: Parameters, x: i64, y: i64) -> Answer {
-    if forward {
-        return plane_answer(azimuthal_forward::forward(p, Geodetic(x), y));
+fn answer(q: Question) -> Answer
+    ensures { λ r. ⌜ toldOf r ≡ toldBy q ⌝ }
+{
+    let p = q.set;
+    if q.forward {
+        return forward_answer(p, Geodetic(q.first), q.second);
     }
-    position_answer(inverse(p, x, y))
-}
-
-fn show_plane(easting: i64, northing: i64) {
-    word(words::EASTING);
-    number(easting);
-    word(words::NORTHING);
-    number(northing);
-}
-
-fn show_position(lat: i64, lon: i64) {
-    word(words::POSITION);
-    number(lat);
-    number(lon);
+    inverse_answer(p, q.first, q.second)
 }
 
 fn show(forward: bool, a: Answer) {
-    if a.mark != 0 {
-        refusal(a.mark);
+    if a.refusal != 0 {
+        refusal(a.refusal);
         return;
     }
     if forward {
-        show_plane(a.x, a.y);
+        word(words::EASTING);
+        number(a.first);
+        word(words::NORTHING);
+        number(a.second);
     } else {
-        show_position(a.x, a.y);
+        word(words::POSITION);
+        number(a.first);
+        number(a.second);
     }
 }
 
-fn asked(forward: bool, x: i64, y: i64) {
-    if forward {
+fn asked(k: usize, q: Question) {
+    name(k);
+    if q.forward {
         word(words::FORWARD);
     } else {
         word(words::INVERSE);
     }
-    number(x);
-    number(y);
+    number(q.first);
+    number(q.second);
     word(words::ANSWER);
 }
 
 // The row up to what was expected.
-fn run(forward: bool, p: Parameters, x: i64, y: i64, right: Answer) -> Answer {
-    asked(forward, x, y);
-    let found = call(forward, p, x, y);
-    show(forward, found);
+fn run(k: usize, q: Question, right: Answer) -> Answer
+    ensures { λ r. ⌜ toldOf r ≡ toldBy q ⌝ }
+{
+    asked(k, q);
+    let found = answer(q);
+    show(q.forward, found);
     word(words::EXPECTED);
-    show(forward, right);
+    show(q.forward, right);
     found
 }
 
-// How far an answer is from the one expected; a refusal is as far off as can be.
-struct Gaps {
-    x: u64,
-    y: u64,
-}
-
-fn gaps_of(found: Answer, right: Answer) -> Gaps {
-    if found.mark != 0 {
-        return Gaps {
-            x: 2000000000,
-            y: 2000000000,
-        };
-    }
-    Gaps {
-        x: gap(found.x, right.x),
-        y: gap(found.y, right.y),
-    }
-}
-
-fn off_by(gaps: Gaps) {
+fn show_gaps(off: Gaps, unit: usize, most: u64) {
     word(words::OFF_BY);
-    size(gaps.x);
+    size(off.first);
     word(words::AND);
-    size(gaps.y);
-}
-
-// The end of a row that allows for so much in either number.
-fn at_most(gaps: Gaps, most: u64) {
+    size(off.second);
+    word(unit);
     word(words::AT_MOST);
     size(most);
-    let mut right = gaps.x <= most;
-    if most < gaps.y {
-        right = false;
-    }
-    verdict(right);
 }
 
-fn row(forward: bool, p: Parameters, x: i64, y: i64, right: Answer, most: u64) {
-    let off = gaps_of(run(forward, p, x, y, right), right);
-    off_by(off);
-    if forward {
-        word(words::CM);
+// Either value may be off by at most so many cm forward, and so many mas inverse.
+pub(crate) fn row(k: usize, q: Question, right: Answer, most: u64) -> bool
+    ensures { λ r. ⌜ r ≡ isNear most (toldBy q) (toldOf right) ⌝ }
+{
+    let found = run(k, q, right);
+    let off = gaps_of(found, right);
+    if q.forward {
+        show_gaps(off, words::CM, most);
     } else {
-        word(words::MAS);
+        show_gaps(off, words::MAS, most);
     }
-    at_most(off, most);
+    verdict(is_right(found, right, off, most))
 }
 
-// Forward, with E and N at most `most` cm off.
-pub(crate) fn forward_row(
-    p: Parameters,
-    lat: i64,
-    lon: i64,
-    easting: i64,
-    northing: i64,
-    most: u64,
-) {
-    row(true, p, lat, lon, at(easting, northing), most);
+// Latitude and longitude may be off by at most so many cm on the ground; `cosine` is that of the latitude expected.
+pub(crate) fn ground_row(k: usize, q: Question, right: Answer, cosine: i64, most: u64) -> bool
+    ensures { λ r. ⌜ r ≡ isNearOnGround (q .set .a) cosine most (toldBy q) (toldOf right) ⌝ }
+{
+    let found = run(k, q, right);
+    let p = q.set;
+    let off = on_ground(p.a, cosine, gaps_of(found, right));
+    show_gaps(off, words::CM_ON_THE_GROUND, most);
+    verdict(is_right(found, right, off, most))
 }
 
-// Inverse, with latitude and longitude at most `most` mas off.
-pub(crate) fn inverse_row(
-    p: Parameters,
-    easting: i64,
-    northing: i64,
-    lat: i64,
-    lon: i64,
-    most: u64,
-) {
-    row(false, p, easting, northing, at(lat, lon), most);
-}
-
-// Inverse, with latitude and longitude at most `most` cm off on the ground; `cosine` is that of `lat`.
-pub(crate) fn ground_row(
-    p: Parameters,
-    easting: i64,
-    northing: i64,
-    lat: i64,
-    cosine: i64,
-    lon: i64,
-    most: u64,
-) {
-    let right = at(lat, lon);
-    let off = gaps_of(run(false, p, easting, northing, right), right);
-    let ground = Gaps {
-        x: along_meridian(p.a, off.x),
-        y: along_parallel(p.a, cosine, off.y),
-    };
-    off_by(ground);
-    word(words::CM_ON_THE_GROUND);
-    at_most(ground, most);
-}
-
-// Forward or inverse, refused.
-pub(crate) fn refused_row(forward: bool, p: Parameters, x: i64, y: i64, number: u8) {
-    let found = run(forward, p, x, y, refused(number));
-    verdict(found.mark == number);
+pub(crate) fn refused_row(k: usize, q: Question, number: u8) -> bool
+    ensures { λ r. ⌜ r ≡ isNear 0 (toldBy q) (refused number) ⌝ }
+{
+    let right = refused(number);
+    let found = run(k, q, right);
+    verdict(is_right(found, right, gaps_of(found, right), 0))
 }
