@@ -1,17 +1,15 @@
-// Doubles, printed and compared by their bits.
+// Doubles, printed by their bits.
 use floats::is_finite;
+use judging::doubles::bits;
 use printing::words;
 use printing::words::word;
 
-// A finite double's bits; NaN and the infinities have those of no finite one.
-pub(crate) fn bits(x: f64) -> u64 {
+// The bits in hexadecimal, or a name.
+pub(crate) fn show(x: f64) {
     if is_finite(x) {
-        return f64::to_bits(x);
+        printing::bits(bits(x));
+        return;
     }
-    0x7FF8_0000_0000_0000
-}
-
-fn show_other(x: f64) {
     if x > 0.0 {
         word(words::INFINITY);
         return;
@@ -21,21 +19,6 @@ fn show_other(x: f64) {
         return;
     }
     word(words::NAN);
-}
-
-// The bits in hexadecimal, or a name.
-fn show(x: f64) {
-    if is_finite(x) {
-        printing::bits(bits(x));
-    } else {
-        show_other(x);
-    }
-}
-
-// Two doubles.
-pub(crate) fn show_both(x: f64, y: f64) {
-    show(x);
-    show(y);
 }
 
 pub(crate) fn infinity() -> f64 {

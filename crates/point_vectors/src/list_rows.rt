@@ -1,18 +1,16 @@
 // A row of a list call in degrees or metres. Its outputs are the first elements of arrays of 4,097, all of which are
-// looked at after the call. Its name is printed before it.
-use crate::digest::Digest;
-use crate::digest::are_alike;
-use crate::digest::digest_of;
-use crate::digest::show;
-use crate::digest::untouched;
-use crate::filled::NUMBER;
-use crate::filled::Numbers;
-use crate::filled::filled_marks;
-use crate::filled::numbers;
+// looked at after the call. It gives back its verdict.
+use crate::names::name;
+use judging::doubles::Digest;
+use judging::doubles::are_both;
+use judging::doubles::are_same;
+use judging::doubles::digest_of;
+use judging::doubles::is_told;
 use parameters::Parameters;
 use point_lists::ListAnswer;
 use point_lists::forward_list;
 use point_lists::inverse_list;
+use printing::bits;
 use printing::refusal;
 use printing::size;
 use printing::verdict;
@@ -22,85 +20,71 @@ use std::num::nearest_u64_to_f64;
 ghost use mathlib.Core.Path.{_≡_};
 ghost use Prim.Native.Nat.{_≤_};
 ghost use lib.ListN.{length};
+ghost use Rattle.point_lists.specs.Lists.{rowOf, ListCall};
+ghost use Rattle.points.specs.Pairs.{zeroFloat};
+ghost use Rattle.parameters.specs.ParameterSet.{etrsLaea};
+ghost use Rattle.judging.specs.Doubles.{isTold};
+ghost use Rattle.point_vectors.specs.Lists.{room, numbersOf, marksOf, stepsOf, outcomeOf, untouchedDigest, isCounted, isRefused};
 
-pub(crate) fn run(
-    p: Parameters,
-    forward: bool,
-    xs: &[f64],
-    ys: &[f64],
-    firsts: &mut [f64],
-    seconds: &mut [f64],
-    marks: &mut [u8],
-) -> ListAnswer {
-    if forward {
-        return forward_list(p, xs, ys, firsts, seconds, marks);
-    }
-    inverse_list(p, xs, ys, firsts, seconds, marks)
+// One more than a list call takes.
+const ROOM: usize = 4_097;
+
+type Numbers = [f64; 4097];
+
+type Marks = [u8; 4097];
+
+// What the outputs hold before the call.
+pub(crate) const NUMBER: f64 = 7.5;
+
+pub(crate) const MARK: u8 = 9;
+
+// Lending these as slices needs their length.
+fn numbers(x: f64) -> Numbers
+    ensures { λ r. ⌜ (r ≡ numbersOf x) × (room ≡ length r) ⌝ }
+{
+    [x; 4097]
 }
 
-fn show_count(n: u64) {
-    word(words::COUNT);
-    size(n);
-}
-
-fn show_answer(answer: ListAnswer) {
-    match answer {
-        ListAnswer::Count(n) => show_count(n),
-        ListAnswer::Refused(n) => {
-            refusal(n);
-        }
-    }
-}
-
-fn is_count(answer: ListAnswer, right: u64) -> bool {
-    match answer {
-        ListAnswer::Count(n) => n == right,
-        ListAnswer::Refused(_) => false,
-    }
-}
-
-fn is_refusal(answer: ListAnswer, right: u8) -> bool {
-    match answer {
-        ListAnswer::Count(_) => false,
-        ListAnswer::Refused(n) => n == right,
-    }
-}
-
-// The row up to what was expected.
-fn asked(forward: bool, answer: ListAnswer) {
-    if forward {
-        word(words::OF_DEGREES);
-    } else {
-        word(words::OF_METRES);
-    }
-    show_answer(answer);
-    word(words::EXPECTED);
-}
-
-// The row up to the count, and whether that is as expected.
-pub(crate) fn count_row(forward: bool, answer: ListAnswer, right: u64) -> bool {
-    asked(forward, answer);
-    show_count(right);
-    is_count(answer, right)
+fn marks() -> Marks
+    ensures { λ r. ⌜ (r ≡ marksOf) × (room ≡ length r) ⌝ }
+{
+    [MARK; 4097]
 }
 
 // 0, step, 2 steps and so on.
 fn steps(step: f64) -> Numbers
-    ensures { λ r. ⌜ 4_097 ≡ length r ⌝ }
+    ensures { λ r. ⌜ (r ≡ stepsOf step) × (room ≡ length r) ⌝ }
 {
     let mut out = numbers(0.0);
     let mut i = 0;
-    while i < 4097 {
+    while i < ROOM {
         out[i] = nearest_u64_to_f64(i as u64) * step;
         i += 1;
     }
     out
 }
 
+pub(crate) fn run(
+    p: Parameters,
+    forward: bool,
+    xs: &[f64],
+    ys: &[f64],
+    leading: &mut [f64],
+    trailing: &mut [f64],
+    marks: &mut [u8],
+) -> ListAnswer
+    ensures { λ r. ⌜ ListCall p (rowOf forward p) (now (xs .entry)) (now (ys .entry)) (now (leading .entry)) (now (leading .exit)) (now (trailing .entry)) (now (trailing .exit)) (now (marks .entry)) (now (marks .exit)) r ⌝ }
+{
+    if forward {
+        return forward_list(p, xs, ys, leading, trailing, marks);
+    }
+    inverse_list(p, xs, ys, leading, trailing, marks)
+}
+
 // What a call answered, and what it left in its outputs.
-struct Outcome {
-    answer: ListAnswer,
-    digest: Digest,
+pub(crate) struct Outcome {
+    pub(crate) answer: ListAnswer,
+    pub(crate) digest: Digest,
 }
 
 // A call on lists of these lengths, the k-th point at k steps.
@@ -115,55 +99,102 @@ fn call(
     x_step: f64,
     y_step: f64,
 ) -> Outcome
-    requires { ⌜ (a ≤ 4_097) × (b ≤ 4_097) × (c ≤ 4_097) × (d ≤ 4_097) × (e ≤ 4_097) ⌝ }
+    requires { ⌜ (a ≤ room) × (b ≤ room) × (c ≤ room) × (d ≤ room) × (e ≤ room) ⌝ }
+    ensures { λ r. ⌜ r ≡ outcomeOf p forward a b c d e «x_step» «y_step» ⌝ }
 {
     let xs = steps(x_step);
     let ys = steps(y_step);
-    let mut firsts = numbers(NUMBER);
-    let mut seconds = numbers(NUMBER);
-    let mut marks = filled_marks();
+    let mut leading = numbers(NUMBER);
+    let mut trailing = numbers(NUMBER);
+    let mut marks = marks();
     let answer = run(
         p,
         forward,
         &xs[..a],
         &ys[..b],
-        &mut firsts[..c],
-        &mut seconds[..d],
+        &mut leading[..c],
+        &mut trailing[..d],
         &mut marks[..e],
     );
     Outcome {
         answer,
-        digest: digest_of(&firsts, &seconds, &marks),
+        digest: digest_of(&leading, &trailing, &marks),
     }
 }
 
-// The end of a row that expects both.
-fn both(first: bool, second: bool) {
-    if first {
-        verdict(second);
-    } else {
-        verdict(false);
+// The digest of outputs that are as they were filled.
+fn untouched() -> Digest
+    ensures { λ r. ⌜ r ≡ untouchedDigest ⌝ }
+{
+    digest_of(&numbers(NUMBER), &numbers(NUMBER), &marks())
+}
+
+fn show_answer(answer: ListAnswer) {
+    match answer {
+        ListAnswer::Count(n) => {
+            word(words::COUNT);
+            size(n);
+        }
+        ListAnswer::Refused(n) => {
+            refusal(n);
+        }
     }
+}
+
+// The row up to what was expected.
+fn asked(k: usize, forward: bool, answer: ListAnswer) {
+    name(k);
+    if forward {
+        word(words::OF_DEGREES);
+    } else {
+        word(words::OF_METRES);
+    }
+    show_answer(answer);
+    word(words::EXPECTED);
+}
+
+fn show_digest(digest: Digest) {
+    word(words::DIGEST);
+    bits(digest.sum);
+    bits(digest.sums);
+}
+
+// The row up to the count, and whether that is as expected.
+pub(crate) fn count_row(k: usize, forward: bool, answer: ListAnswer, right: u64) -> bool
+    ensures { λ r. ⌜ r ≡ isTold answer 0 right ⌝ }
+{
+    asked(k, forward, answer);
+    show_answer(ListAnswer::Count(right));
+    is_told(answer, 0, right)
 }
 
 // Lists of n points of ETRS-LAEA; all are accepted.
-pub(crate) fn list_row(forward: bool, n: usize, x_step: f64, y_step: f64, count: u64, right: Digest)
-    requires { ⌜ n ≤ 4_097 ⌝ }
+pub(crate) fn list_row(
+    k: usize,
+    forward: bool,
+    n: usize,
+    x_step: f64,
+    y_step: f64,
+    right: Digest,
+) -> bool
+    requires { ⌜ n ≤ room ⌝ }
+    ensures { λ r. ⌜ r ≡ isCounted (outcomeOf etrsLaea forward n n n n n «x_step» «y_step») n right ⌝ }
 {
     let p = Parameters::etrs_laea();
     let found = call(p, forward, n, n, n, n, n, x_step, y_step);
     let answer = found.answer;
     let digest = found.digest;
-    let counted = count_row(forward, answer, count);
+    let counted = count_row(k, forward, answer, n as u64);
     word(words::THEN);
-    show(digest);
+    show_digest(digest);
     word(words::EXPECTED);
-    show(right);
-    both(counted, are_alike(digest, right));
+    show_digest(right);
+    verdict(are_both(counted, are_same(digest, right)))
 }
 
 // Lists of these lengths, refused with the outputs as they were.
 pub(crate) fn list_refused(
+    k: usize,
     p: Parameters,
     forward: bool,
     a: usize,
@@ -172,16 +203,15 @@ pub(crate) fn list_refused(
     d: usize,
     e: usize,
     number: u8,
-)
-    requires { ⌜ (a ≤ 4_097) × (b ≤ 4_097) × (c ≤ 4_097) × (d ≤ 4_097) × (e ≤ 4_097) ⌝ }
+) -> bool
+    requires { ⌜ (a ≤ room) × (b ≤ room) × (c ≤ room) × (d ≤ room) × (e ≤ room) ⌝ }
+    ensures { λ r. ⌜ r ≡ isRefused (outcomeOf p forward a b c d e zeroFloat zeroFloat) number ⌝ }
 {
     let found = call(p, forward, a, b, c, d, e, 0.0, 0.0);
     let answer = found.answer;
-    asked(forward, answer);
+    let digest = found.digest;
+    asked(k, forward, answer);
     refusal(number);
     word(words::UNTOUCHED);
-    both(
-        is_refusal(answer, number),
-        are_alike(found.digest, untouched()),
-    );
+    verdict(are_both(is_told(answer, number, 0), are_same(digest, untouched())))
 }

@@ -1,97 +1,121 @@
 // Lists in degrees and metres: short and long ones, and refused ones.
-use crate::digest::Digest;
 use crate::list_rows::list_refused;
 use crate::list_rows::list_row;
-use crate::sets::etrs_laea;
-use crate::sets::no_set;
+use crate::names;
+use crate::point_rows::FORWARD;
+use crate::point_rows::INVERSE;
+use crate::sets::NO_SET;
+use judging::doubles::Digest;
 use parameters::Parameters;
-use printing::line;
+use units::refusals::BAD_SET;
+use units::refusals::LONG_LISTS;
+use units::refusals::UNEQUAL_LISTS;
 ghost use Prim.Native.Nat.{_≤_};
+ghost use Rattle.point_vectors.specs.Lists.{room};
 
-// The names of the rows, counted from 0.
-fn name(k: usize) {
-    line(
-        b"list of 0
-list of 1
-list of 4096
-unequal 2 3 3 3 3
-unequal 3 2 3 3 3
-unequal 3 3 4 3 3
-unequal 3 3 3 2 3
-unequal 3 3 3 3 4
-list of 4097
-unequal at 4097
-bad set, 4097
-bad set, unequal
-bad set, 1
-bad set, 0",
-        k,
-    );
+fn degrees(k: usize, n: usize, sum: u64, sums: u64)
+    requires { ⌜ n ≤ room ⌝ }
+{
+    list_row(k, FORWARD, n, 0.015625, 0.03125, Digest { sum, sums });
 }
 
-fn degrees(k: usize, n: usize, count: u64, sum: u64, sums: u64)
-    requires { ⌜ n ≤ 4_097 ⌝ }
+fn metres(k: usize, n: usize, sum: u64, sums: u64)
+    requires { ⌜ n ≤ room ⌝ }
 {
-    name(k);
-    list_row(true, n, 0.015625, 0.03125, count, Digest { sum, sums });
-}
-
-fn metres(k: usize, n: usize, count: u64, sum: u64, sums: u64)
-    requires { ⌜ n ≤ 4_097 ⌝ }
-{
-    name(k);
-    list_row(false, n, 1000.0, 500.0, count, Digest { sum, sums });
+    list_row(k, INVERSE, n, 1_000.0, 500.0, Digest { sum, sums });
 }
 
 pub(crate) fn accepted() {
-    degrees(0, 0, 0, 0x403C000000009009, 0x209600000480D809);
-    degrees(1, 1, 1, 0xC28909AF51EC151F, 0x605991D62C2E6BD8);
-    degrees(2, 4096, 4096, 0x66366F1F12E147C6, 0x17407F6902E4BB15);
-    metres(0, 0, 0, 0x403C000000009009, 0x209600000480D809);
-    metres(1, 1, 1, 0xC06712F0846289F0, 0x43218E9AE1FE9BC8);
-    metres(2, 4096, 4096, 0x5EC56F832E64DEF8, 0x134B35209854D754);
+    degrees(
+        names::LIST_OF_0,
+        0,
+        0x403C_0000_0000_9009,
+        0x2096_0000_0480_D809,
+    );
+    degrees(
+        names::LIST_OF_1,
+        1,
+        0xC289_09AF_51EC_151F,
+        0x6059_91D6_2C2E_6BD8,
+    );
+    degrees(
+        names::LIST_OF_4096,
+        4_096,
+        0x6636_6F1F_12E1_47C6,
+        0x1740_7F69_02E4_BB15,
+    );
+    metres(
+        names::LIST_OF_0,
+        0,
+        0x403C_0000_0000_9009,
+        0x2096_0000_0480_D809,
+    );
+    metres(
+        names::LIST_OF_1,
+        1,
+        0xC067_12F0_8462_89F0,
+        0x4321_8E9A_E1FE_9BC8,
+    );
+    metres(
+        names::LIST_OF_4096,
+        4_096,
+        0x5EC5_6F83_2E64_DEF8,
+        0x134B_3520_9854_D754,
+    );
 }
 
 // Lists of unequal length.
 fn unequal(k: usize, forward: bool, a: usize, b: usize, c: usize, d: usize, e: usize)
-    requires { ⌜ (a ≤ 4_097) × (b ≤ 4_097) × (c ≤ 4_097) × (d ≤ 4_097) × (e ≤ 4_097) ⌝ }
+    requires { ⌜ (a ≤ room) × (b ≤ room) × (c ≤ room) × (d ≤ room) × (e ≤ room) ⌝ }
 {
-    name(k);
-    list_refused(etrs_laea(), forward, a, b, c, d, e, 5);
+    let p = Parameters::etrs_laea();
+    list_refused(k, p, forward, a, b, c, d, e, UNEQUAL_LISTS);
 }
 
 // Each list in turn is shorter than the others, or longer.
 fn every_unequal(forward: bool) {
-    unequal(3, forward, 2, 3, 3, 3, 3);
-    unequal(4, forward, 3, 2, 3, 3, 3);
-    unequal(5, forward, 3, 3, 4, 3, 3);
-    unequal(6, forward, 3, 3, 3, 2, 3);
-    unequal(7, forward, 3, 3, 3, 3, 4);
+    unequal(names::UNEQUAL_1, forward, 2, 3, 3, 3, 3);
+    unequal(names::UNEQUAL_2, forward, 3, 2, 3, 3, 3);
+    unequal(names::UNEQUAL_3, forward, 3, 3, 4, 3, 3);
+    unequal(names::UNEQUAL_4, forward, 3, 3, 3, 2, 3);
+    unequal(names::UNEQUAL_5, forward, 3, 3, 3, 3, 4);
 }
 
 // Lists of n elements, the marks of m.
 fn refused(k: usize, p: Parameters, forward: bool, n: usize, m: usize, number: u8)
-    requires { ⌜ (n ≤ 4_097) × (m ≤ 4_097) ⌝ }
+    requires { ⌜ (n ≤ room) × (m ≤ room) ⌝ }
 {
-    name(k);
-    list_refused(p, forward, n, n, n, n, m, number);
+    list_refused(k, p, forward, n, n, n, n, m, number);
 }
 
 // 5 is tested before 6, 6 before 1, and 1 for lists of length 0 too.
 fn order(forward: bool) {
-    let p = etrs_laea();
-    let bad = no_set();
-    refused(8, p, forward, 4097, 4097, 6);
-    refused(9, p, forward, 4097, 4096, 5);
-    refused(10, bad, forward, 4097, 4097, 6);
-    refused(11, bad, forward, 3, 2, 5);
-    refused(12, bad, forward, 1, 1, 1);
-    refused(13, bad, forward, 0, 0, 1);
+    let p = Parameters::etrs_laea();
+    refused(names::LIST_OF_4097, p, forward, 4_097, 4_097, LONG_LISTS);
+    refused(
+        names::UNEQUAL_AT_4097,
+        p,
+        forward,
+        4_097,
+        4_096,
+        UNEQUAL_LISTS,
+    );
+    refused(
+        names::BAD_SET_4097,
+        NO_SET,
+        forward,
+        4_097,
+        4_097,
+        LONG_LISTS,
+    );
+    refused(names::BAD_SET_UNEQUAL, NO_SET, forward, 3, 2, UNEQUAL_LISTS);
+    refused(names::BAD_SET_1, NO_SET, forward, 1, 1, BAD_SET);
+    refused(names::BAD_SET_0, NO_SET, forward, 0, 0, BAD_SET);
 }
 
 pub(crate) fn refusals() {
-    every_unequal(true);
-    order(true);
-    every_unequal(false);
-    order(false);
+    every_unequal(FORWARD);
+    order(FORWARD);
+    every_unequal(INVERSE);
+    order(INVERSE);
 }

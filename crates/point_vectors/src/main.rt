@@ -1,19 +1,17 @@
 // Runs examples in degrees and metres, one by one and in lists, and prints what the library answers; the gate holds it
 // to `stdout`.
 mod degrees_and_metres;
-mod digest;
 mod doubles;
-mod filled;
 mod list_rows;
 mod lists;
 mod mixed;
+mod names;
 mod point_rows;
 mod sets;
 
 fn main() {
     degrees_and_metres::centre();
-    degrees_and_metres::latitudes();
-    degrees_and_metres::longitudes();
+    degrees_and_metres::limits();
     degrees_and_metres::plane_limits();
     degrees_and_metres::zeros();
     degrees_and_metres::halves();

@@ -1,10 +1,13 @@
 // Lists with every refusal of a point in them, element by element.
 use crate::doubles::infinity;
 use crate::doubles::nan;
-use crate::filled::MARK;
-use crate::filled::NUMBER;
+use crate::list_rows::MARK;
+use crate::list_rows::NUMBER;
 use crate::list_rows::count_row;
 use crate::list_rows::run;
+use crate::names;
+use crate::point_rows::FORWARD;
+use crate::point_rows::INVERSE;
 use crate::point_rows::compare;
 use parameters::Parameters;
 use points::pairs::Row;
@@ -12,36 +15,58 @@ use printing::size;
 use printing::verdict;
 use printing::words;
 use printing::words::word;
+use units::refusals::NOT_FINITE;
+use units::refusals::OUT_OF_LIMITS;
+use units::refusals::TOO_FAR;
+ghost use mathlib.Core.Path.{_≡_};
+ghost use Prim.Native.Nat.{_<_};
+ghost use Rattle.judging.specs.Doubles.{alike};
+ghost use Rattle.point_vectors.specs.Lists.{rowAt};
 
 type Numbers = [f64; 8];
 
-fn element(place: u64, found: Row, right: Row) {
+// The row at a place of three lists.
+fn row_at(i: usize, marks: &[u8; 8], leading: &Numbers, trailing: &Numbers) -> Row
+    requires { ⌜ i < 8 ⌝ }
+    ensures { λ r. ⌜ r ≡ rowAt i (now (marks .entry)) (now (leading .entry)) (now (trailing .entry)) ⌝ }
+{
+    Row {
+        mark: marks[i],
+        first: leading[i],
+        second: trailing[i],
+    }
+}
+
+fn element(place: u64, found: Row, right: Row) -> bool
+    ensures { λ r. ⌜ r ≡ alike found right ⌝ }
+{
     word(words::ELEMENT);
     size(place);
-    compare(found, right);
+    compare(found, right)
 }
 
 // Each element found beside the one expected. Both lists have the same marks.
 fn elements(
     marks: &[u8; 8],
-    firsts: &Numbers,
-    seconds: &Numbers,
-    right_firsts: &Numbers,
-    right_seconds: &Numbers,
+    leading: &Numbers,
+    trailing: &Numbers,
+    right_leading: &Numbers,
+    right_trailing: &Numbers,
 ) {
-    let right_marks = [0, 2, 3, 4, 0, 2, 3, 2];
+    let right_marks = [
+        0,
+        NOT_FINITE,
+        OUT_OF_LIMITS,
+        TOO_FAR,
+        0,
+        NOT_FINITE,
+        OUT_OF_LIMITS,
+        NOT_FINITE,
+    ];
     let mut i = 0;
     while i < 8 {
-        let found = Row {
-            mark: marks[i],
-            first: firsts[i],
-            second: seconds[i],
-        };
-        let right = Row {
-            mark: right_marks[i],
-            first: right_firsts[i],
-            second: right_seconds[i],
-        };
+        let found = row_at(i, marks, leading, trailing);
+        let right = row_at(i, &right_marks, right_leading, right_trailing);
         element(i as u64, found, right);
         i += 1;
     }
@@ -51,17 +76,16 @@ fn list(
     forward: bool,
     xs: &Numbers,
     ys: &Numbers,
-    right_firsts: &Numbers,
-    right_seconds: &Numbers,
+    right_leading: &Numbers,
+    right_trailing: &Numbers,
 ) {
-    let mut firsts = [NUMBER; 8];
-    let mut seconds = [NUMBER; 8];
+    let mut leading = [NUMBER; 8];
+    let mut trailing = [NUMBER; 8];
     let mut marks = [MARK; 8];
     let p = Parameters::etrs_laea();
-    let found = run(p, forward, xs, ys, &mut firsts, &mut seconds, &mut marks);
-    word(words::MIXED_LIST);
-    verdict(count_row(forward, found, 2));
-    elements(&marks, &firsts, &seconds, right_firsts, right_seconds);
+    let found = run(p, forward, xs, ys, &mut leading, &mut trailing, &mut marks);
+    verdict(count_row(names::MIXED_LIST, forward, found, 2));
+    elements(&marks, &leading, &trailing, right_leading, right_trailing);
 }
 
 pub(crate) fn of_degrees() {
@@ -76,33 +100,33 @@ pub(crate) fn of_degrees() {
         180.00000000000003,
         nan(),
     ];
-    let firsts = [4321000.0, 0.0, 0.0, 0.0, 4532329.67, 0.0, 0.0, 0.0];
-    let seconds = [3210000.0, 0.0, 0.0, 0.0, 8390463.46, 0.0, 0.0, 0.0];
-    list(true, &xs, &ys, &firsts, &seconds);
+    let leading = [4_321_000.0, 0.0, 0.0, 0.0, 4_532_329.67, 0.0, 0.0, 0.0];
+    let trailing = [3_210_000.0, 0.0, 0.0, 0.0, 8_390_463.46, 0.0, 0.0, 0.0];
+    list(FORWARD, &xs, &ys, &leading, &trailing);
 }
 
 pub(crate) fn of_metres() {
     let xs = [
-        4321000.0,
+        4_321_000.0,
         nan(),
-        -50000000.00000001,
-        50000000.0,
-        3962799.45,
+        -50_000_000.00000001,
+        50_000_000.0,
+        3_962_799.45,
         0.0,
         0.0,
-        50000001.0,
+        50_000_001.0,
     ];
     let ys = [
-        3210000.0,
+        3_210_000.0,
         0.0,
         0.0,
         0.0,
-        2999718.85,
+        2_999_718.85,
         -infinity(),
-        50000000.00000001,
+        50_000_000.00000001,
         nan(),
     ];
-    let firsts = [52.0, 0.0, 0.0, 0.0, 50.0, 0.0, 0.0, 0.0];
-    let seconds = [10.0, 0.0, 0.0, 0.0, 5.000000277777778, 0.0, 0.0, 0.0];
-    list(false, &xs, &ys, &firsts, &seconds);
+    let leading = [52.0, 0.0, 0.0, 0.0, 50.0, 0.0, 0.0, 0.0];
+    let trailing = [10.0, 0.0, 0.0, 0.0, 5.000000277777778, 0.0, 0.0, 0.0];
+    list(INVERSE, &xs, &ys, &leading, &trailing);
 }

@@ -1,22 +1,35 @@
-// A row of one point in degrees or metres: what was asked, the answer and what was expected, doubles by their bits.
-// Its name is printed before it.
-use crate::doubles::bits;
-use crate::doubles::show_both;
+// A row of one point in degrees or metres: its name, what was asked, the answer and what was expected, doubles by their
+// bits. It gives back its verdict.
+use crate::doubles::show;
+use crate::names::name;
+use judging::doubles::are_alike;
 use parameters::Parameters;
 use points::pairs::GeodeticPair;
-use points::pairs::GeodeticPairAnswer;
 use points::pairs::PlanePair;
 use points::pairs::PlanePairAnswer;
 use points::pairs::Row;
+use points::pairs::geodetic_row;
+use points::pairs::plane_row;
 use points::single::forward_degrees;
 use points::single::inverse_metres;
 use printing::refusal;
 use printing::verdict;
 use printing::words;
 use printing::words::word;
+ghost use mathlib.Core.Path.{_≡_};
+ghost use Rattle.judging.specs.Doubles.{alike};
+ghost use Rattle.points.specs.Pairs.{row};
+ghost use Rattle.point_lists.specs.Lists.{rowOf};
+
+// From degrees to metres, and back.
+pub(crate) const FORWARD: bool = true;
+
+pub(crate) const INVERSE: bool = false;
 
 // An answer that is accepted.
-pub(crate) fn answer(first: f64, second: f64) -> Row {
+pub(crate) fn accepted(first: f64, second: f64) -> Row
+    ensures { λ r. ⌜ r ≡ row 0 first second ⌝ }
+{
     Row {
         mark: 0,
         first,
@@ -26,72 +39,60 @@ pub(crate) fn answer(first: f64, second: f64) -> Row {
 
 // An answer that is refused.
 pub(crate) fn refused(number: u8) -> Row {
-    Row {
-        mark: number,
-        first: 0.0,
-        second: 0.0,
-    }
+    plane_row(PlanePairAnswer::Refused(number))
 }
 
-fn show(m: Row) {
-    if m.mark != 0 {
-        refusal(m.mark);
+fn show_row(row: Row) {
+    if row.mark != 0 {
+        refusal(row.mark);
     } else {
-        show_both(m.first, m.second);
+        show(row.first);
+        show(row.second);
     }
-}
-
-// Both numbers alike in every bit, and the mark.
-fn are_alike(m: Row, n: Row) -> bool {
-    if m.mark != n.mark {
-        return false;
-    }
-    if bits(m.first) != bits(n.first) {
-        return false;
-    }
-    bits(m.second) == bits(n.second)
 }
 
 // The end of a row.
-pub(crate) fn compare(found: Row, right: Row) {
+pub(crate) fn compare(found: Row, right: Row) -> bool
+    ensures { λ r. ⌜ r ≡ alike found right ⌝ }
+{
     word(words::ANSWER);
-    show(found);
+    show_row(found);
     word(words::EXPECTED);
-    show(right);
-    verdict(are_alike(found, right));
+    show_row(right);
+    verdict(are_alike(found, right))
 }
 
-fn forward_answer(p: Parameters, latitude: f64, longitude: f64) -> Row {
-    let at = GeodeticPair {
-        latitude,
-        longitude,
+fn answer(forward: bool, p: Parameters, x: f64, y: f64) -> Row
+    ensures { λ r. ⌜ r ≡ rowOf forward p x y ⌝ }
+{
+    if forward {
+        let at = GeodeticPair {
+            latitude: x,
+            longitude: y,
+        };
+        return plane_row(forward_degrees(p, at));
+    }
+    let at = PlanePair {
+        first: x,
+        second: y,
     };
-    let found = forward_degrees(p, at);
-    match found {
-        PlanePairAnswer::Metres(pair) => answer(pair.first, pair.second),
-        PlanePairAnswer::Refused(number) => refused(number),
+    geodetic_row(inverse_metres(p, at))
+}
+
+fn asked(k: usize, forward: bool, x: f64, y: f64) {
+    name(k);
+    if forward {
+        word(words::DEGREES);
+    } else {
+        word(words::METRES);
     }
+    show(x);
+    show(y);
 }
 
-fn inverse_answer(p: Parameters, first: f64, second: f64) -> Row {
-    let at = PlanePair { first, second };
-    let found = inverse_metres(p, at);
-    match found {
-        GeodeticPairAnswer::Degrees(pair) => answer(pair.latitude, pair.longitude),
-        GeodeticPairAnswer::Refused(number) => refused(number),
-    }
-}
-
-// Degrees to metres.
-pub(crate) fn degrees_row(p: Parameters, lat: f64, lon: f64, right: Row) {
-    word(words::DEGREES);
-    show_both(lat, lon);
-    compare(forward_answer(p, lat, lon), right);
-}
-
-// Metres to degrees.
-pub(crate) fn metres_row(p: Parameters, x: f64, y: f64, right: Row) {
-    word(words::METRES);
-    show_both(x, y);
-    compare(inverse_answer(p, x, y), right);
+pub(crate) fn row(k: usize, forward: bool, p: Parameters, x: f64, y: f64, right: Row) -> bool
+    ensures { λ r. ⌜ r ≡ alike (rowOf forward p x y) right ⌝ }
+{
+    asked(k, forward, x, y);
+    compare(answer(forward, p, x, y), right)
 }

@@ -16,11 +16,11 @@ setOf a e2 φ0 lon0 FE FN =
     record { a = a; e2 = e2; lat0 = record { 0 = φ0 }; lon0 = lon0; «false_easting» = FE; «false_northing» = FN }
 
 -- a latitude and a longitude forward, an easting and a northing inverse
-abbrev pub forwardOf : Parameters → ℤ → ℤ → Question
-forwardOf p lat lon = record { forward = true; set = p; first = lat; second = lon }
+abbrev pub forwardAsked : Parameters → ℤ → ℤ → Question
+forwardAsked p lat lon = record { forward = true; set = p; first = lat; second = lon }
 
-abbrev pub inverseOf : Parameters → ℤ → ℤ → Question
-inverseOf p E N = record { forward = false; set = p; first = E; second = N }
+abbrev pub inverseAsked : Parameters → ℤ → ℤ → Question
+inverseAsked p E N = record { forward = false; set = p; first = E; second = N }
 
 -- what the call tells that is asked for
 abbrev pub toldBy : Question → Told

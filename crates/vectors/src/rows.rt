@@ -24,7 +24,7 @@ ghost use Rattle.units.specs.Answers.{refused};
 ghost use Rattle.judging.specs.Gaps.{toldOf};
 ghost use Rattle.azimuthal_forward.specs.Answer.{forwardTold};
 ghost use Rattle.azimuthal_inverse.specs.Answer.{inverseTold};
-ghost use Rattle.vectors.specs.Rows.{setOf, toldBy, isNear, isNearOnGround, forwardOf, inverseOf};
+ghost use Rattle.vectors.specs.Rows.{setOf, toldBy, isNear, isNearOnGround, forwardAsked, inverseAsked};
 
 // A set by its numbers, in the order of document 01's table.
 pub(crate) fn set(
@@ -56,7 +56,7 @@ pub(crate) struct Question {
 }
 
 pub(crate) fn forward_of(set: Parameters, lat: i64, lon: i64) -> Question
-    ensures { λ r. ⌜ r ≡ forwardOf set lat lon ⌝ }
+    ensures { λ r. ⌜ r ≡ forwardAsked set lat lon ⌝ }
 {
     Question {
         forward: true,
@@ -67,7 +67,7 @@ pub(crate) fn forward_of(set: Parameters, lat: i64, lon: i64) -> Question
 }
 
 pub(crate) fn inverse_of(set: Parameters, easting: i64, northing: i64) -> Question
-    ensures { λ r. ⌜ r ≡ inverseOf set easting northing ⌝ }
+    ensures { λ r. ⌜ r ≡ inverseAsked set easting northing ⌝ }
 {
     Question {
         forward: false,

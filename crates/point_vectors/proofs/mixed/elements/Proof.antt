@@ -1,47 +1,23 @@
--- `mixed::elements` ends: each turn takes the next element. Assumes nothing.
+-- `mixed::elements` ends, and every place that it takes is below 8: each turn takes the next. Assumes nothing.
 use Prim.Native.Nat.{_≤_, _-_}
 use borrow.Author.Needs.{needs}
 use Rattle.point_vectors.proofs.mixed.elements.Statement.{statement}
 use Rattle.point_vectors.proofs.mixed.elements.Tie as tie
 
 abbrev Inv-loop : tie.InvT-loop
-Inv-loop marks firsts seconds right-firsts right-seconds right-marks i₀ i = i ≤ 8
+Inv-loop marks leading trailing right-leading right-trailing right-marks i₀ i = i ≤ 8
 
 abbrev μ-loop : tie.MeasureT-loop
-μ-loop marks firsts seconds right-firsts right-seconds right-marks i₀ i = 8 - i
+μ-loop marks leading trailing right-leading right-trailing right-marks i₀ i = 8 - i
 
 loop-holds : tie.Need-loop-holds Inv-loop μ-loop
 loop-holds c = search needs
 
-element-copy-out-t13 : tie.Need-element-copy-out-t13 Inv-loop μ-loop
-element-copy-out-t13 c = search needs
+row-at-requires : tie.Need-row-at-requires Inv-loop μ-loop
+row-at-requires c κs = search needs
 
-mul-t14 : tie.Need-mul-t14 Inv-loop μ-loop
-mul-t14 c = search needs
-
-element-copy-out-t17 : tie.Need-element-copy-out-t17 Inv-loop μ-loop
-element-copy-out-t17 c = search needs
-
-mul-t18 : tie.Need-mul-t18 Inv-loop μ-loop
-mul-t18 c = search needs
-
-element-copy-out-t21 : tie.Need-element-copy-out-t21 Inv-loop μ-loop
-element-copy-out-t21 c = search needs
-
-array-read-t13 : tie.Need-array-read-t13 Inv-loop μ-loop
-array-read-t13 c = search needs
-
-mul-t14-2 : tie.Need-mul-t14-2 Inv-loop μ-loop
-mul-t14-2 c = search needs
-
-element-copy-out-t21-2 : tie.Need-element-copy-out-t21-2 Inv-loop μ-loop
-element-copy-out-t21-2 c = search needs
-
-mul-t18-2 : tie.Need-mul-t18-2 Inv-loop μ-loop
-mul-t18-2 c = search needs
-
-element-copy-out-t17-2 : tie.Need-element-copy-out-t17-2 Inv-loop μ-loop
-element-copy-out-t17-2 c = search needs
+row-at-requires-2 : tie.Need-row-at-requires-2 Inv-loop μ-loop
+row-at-requires-2 c κs = search needs
 
 element-requires : tie.Need-element-requires Inv-loop μ-loop
 element-requires c κs = search needs
@@ -65,16 +41,8 @@ elements-spec =
     Inv-loop
     μ-loop
     loop-holds
-    element-copy-out-t13
-    mul-t14
-    element-copy-out-t17
-    mul-t18
-    element-copy-out-t21
-    array-read-t13
-    mul-t14-2
-    element-copy-out-t21-2
-    mul-t18-2
-    element-copy-out-t17-2
+    row-at-requires
+    row-at-requires-2
     element-requires
     add-i
     loop-less

@@ -8,13 +8,15 @@ forward-answer-requires : tie.Need-forward-answer-requires
 forward-answer-requires c κs = search needs
 
 returns : tie.Need-returns
-returns c = asked-forward (c .before .before .before .before .before .args .q) (search needs) (search needs) (c .before .before .before .if1 .taken) (c .forward-answer .ensures)
+returns c = asked-forward (c .before .before .before .before .before .args .q) (search needs) (search needs) (c .before .before .before .if1 .taken)
+    (c .forward-answer .ensures)
 
 inverse-answer-requires : tie.Need-inverse-answer-requires
 inverse-answer-requires c κs = search needs
 
 returns-2 : tie.Need-returns-2
-returns-2 c = asked-inverse (c .before .before .before .before .before .args .q) (search needs) (search needs) (c .before .before .before .if1 .left) (c .inverse-answer .ensures)
+returns-2 c = asked-inverse (c .before .before .before .before .before .args .q) (search needs) (search needs) (c .before .before .before .if1 .left)
+    (c .inverse-answer .ensures)
 
 pub answer-spec : {M : Type 1} → statement M
 answer-spec =
