@@ -48,8 +48,7 @@ returns c =
     let a = start .args in
     let outcome = outcomeOf etrsLaea (a .forward) (a .n) (a .n) (a .n) (a .n) (a .n) (a .x-step) (a .y-step) in
     let is =
-    made .call .ensures ∙ ap (λ (p : Parameters). outcomeOf p (a .forward) (a .n) (a .n) (a .n) (a .n) (a .n) (a .x-step) (a .y-step))
-    (made .before .etrs-laea .ensures)
+    made .call .ensures ∙ ap (λ (p : Parameters). outcomeOf p (a .forward) (a .n) (a .n) (a .n) (a .n) (a .n) (a .x-step) (a .y-step)) (made .before .etrs-laea .ensures)
     in
     counted-by (made .call .result) outcome (c .verdict .ensures ∙ c .before .are-both .ensures) is (a .n) (a .right)
     (counted .count-row .ensures)
