@@ -1,11 +1,12 @@
 -- The answer of the forward steps, document 01, "Forward steps" and "Refusal numbers": one refusal number and one pair of values.
-use Prim.Native.Nat.{ℕ, zero, suc}
+use Prim.Native.Nat.{ℕ}
 use mathlib.Core.Bool.{Bool, _&&_}
 use lib.IntN.{ℤ, _+ℤ_, _-ℤ_}
 use Rattle.units.specs.Units.{right-angle, half-turn}
 use Rattle.units.specs.Spans.{inside}
 use Rattle.units.specs.Refusals.{out-of-limits, too-far, unless, firstOf}
-use Rattle.units.specs.Answers.{Told, accepted, refused, told}
+use Rattle.units.specs.declared.answers.Told.{Told}
+use Rattle.units.specs.Answers.{accepted, refused, answered}
 use Rattle.latitudes.specs.declared.Geodetic.{Geodetic}
 use Rattle.parameters.specs.declared.Parameters.{Parameters}
 use Rattle.parameters.specs.ParameterSet.{setRefusal}
@@ -39,11 +40,6 @@ module _ (p : Parameters) (φ : Geodetic) (lon : ℤ) where
   unfoldable pub northingOf : ℤ
   northingOf = p .«false_northing» +ℤ dN (constantsOf p) φ (lon -ℤ p .lon0)
 
--- easting and northing in cm where the refusal number is 0, else the number alone
-abbrev pub planeAnswer : ℕ → ℤ → ℤ → PlaneAnswer
-planeAnswer zero E N = Plane E N
-planeAnswer (suc n) E N = Refused (suc n)
-
 -- the number and the values of each case
 abbrev pub plane-told : PlaneAnswer → Told
 plane-told (Plane E N) = accepted E N
@@ -51,7 +47,7 @@ plane-told (Refused number) = refused number
 
 -- what `forward` answers, and what its answer tells
 unfoldable pub forwardOf : Parameters → Geodetic → ℤ → PlaneAnswer
-forwardOf p φ lon = planeAnswer (forwardRefusal p φ lon) (eastingOf p φ lon) (northingOf p φ lon)
+forwardOf p φ lon = answered Refused (forwardRefusal p φ lon) (Plane (eastingOf p φ lon) (northingOf p φ lon))
 
 unfoldable pub forwardTold : Parameters → Geodetic → ℤ → Told
-forwardTold p φ lon = told (forwardRefusal p φ lon) (eastingOf p φ lon) (northingOf p φ lon)
+forwardTold p φ lon = answered refused (forwardRefusal p φ lon) (accepted (eastingOf p φ lon) (northingOf p φ lon))

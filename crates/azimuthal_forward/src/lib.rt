@@ -17,12 +17,15 @@ use units::LATITUDE_MOST;
 use units::LONGITUDE_LEAST;
 use units::LONGITUDE_MOST;
 use units::UNIT;
+use units::answers::Told;
+use units::answers::accepted;
+use units::answers::refused;
 use units::are_within;
 use units::refusals::OUT_OF_LIMITS;
 use units::refusals::TOO_FAR;
 ghost use mathlib.Core.Path.{_≡_};
 ghost use Prim.Native.Nat.{_≤_, _*_};
-ghost use lib.IntN.{ℤ, pos, natAbs, _+ℤ_, _*ℤ_};
+ghost use lib.IntN.{pos, natAbs, _+ℤ_, _*ℤ_};
 ghost use lib.Signed.{_≤ℤ_};
 ghost use Rattle.integers.specs.Near.{near as nearOf};
 ghost use Rattle.sine_table.specs.Table.{IsTable};
@@ -130,4 +133,14 @@ pub fn forward(p: Parameters, lat: Geodetic, lon: i64) -> PlaneAnswer
     }
     let t = sine_table::table();
     forward_point(&t, p, constants_of(&t, p), lat, lon)
+}
+
+// What an answer tells.
+pub fn plane_told(answer: PlaneAnswer) -> Told
+    ensures { λ r. ⌜ r ≡ plane-told answer ⌝ }
+{
+    match answer {
+        PlaneAnswer::Plane { easting, northing } => accepted(easting, northing),
+        PlaneAnswer::Refused(number) => refused(number),
+    }
 }

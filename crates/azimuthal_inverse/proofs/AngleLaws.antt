@@ -3,23 +3,21 @@
 -- Assumes nothing.
 use mathlib.Core.Path.{_≡_}
 use mathlib.Core.Bool.{Bool, true, false, cond, _&&_}
-use mathlib.Core.Logic.{_⊎_, inl, inr}
-use Prim.Native.Nat.{ℕ, _-_, _*_, _≤_, zero-le}
+use Prim.Native.Nat.{ℕ, _-_, _≤_, zero-le}
 use native.Mathlib.Omega.{arith}
 use lib.Dec.{eqb, lit<}
-use lib.IntN.{ℤ, pos, negℤ, natAbs, _+ℤ_, _-ℤ_, _*ℤ_}
+use lib.IntN.{pos, natAbs, _+ℤ_, _*ℤ_}
 use lib.Signed.{_≤ℤ_, _<ℤ_, ltZ}
 use mir.Syntax.{w64}
 use mir.Val.{toZ, ofZ}
-use Rattle.proof_kit.proofs.Laws.{natAbs-parts, parts-+, parts--}
-use Rattle.proof_kit.proofs.Order.{order, ≤ℤ-total, le-leZ, lt-leZ, le-ltZ, lt-ltZ}
+use Rattle.proof_kit.proofs.Order.{le-ltZ, lt-ltZ}
 use Rattle.proof_kit.proofs.Range.{kept}
 use Rattle.proof_kit.proofs.Size.{abs-neg}
 use Rattle.integers.specs.Near.{signed}
 use Rattle.integers.specs.Root.{root}
 use Rattle.integers.specs.Greatest.{greatest}
 use Rattle.integers.proofs.Greatest.{greatest-le}
-use Rattle.units.specs.Units.{right-angle, half-turn, full-turn}
+use Rattle.units.specs.Units.{right-angle, half-turn}
 use Rattle.trig.specs.Angle.{under, angle}
 use Rattle.azimuthal_inverse.specs.declared.SpherePoint.{SpherePoint}
 use Rattle.azimuthal_inverse.specs.Steps.{SmallPoint, latitudeOf, longitudeOf}

@@ -1,11 +1,11 @@
 -- The inverse answer by the tests that decide it, and what it tells. Assumes nothing.
-use mathlib.Core.Path.{_≡_, refl}
+use mathlib.Core.Path.{_≡_}
 use mathlib.Core.Bool.{true, false}
-use Prim.Native.Nat.{ℕ, zero, suc}
+use Prim.Native.Nat.{ℕ}
 use lib.IntN.{ℤ, _-ℤ_}
 use Rattle.units.specs.Spans.{on-plane}
-use Rattle.units.specs.Answers.{told}
-use Rattle.latitudes.specs.declared.Geodetic.{Geodetic}
+use Rattle.units.specs.Refusals.{out-of-limits, unless}
+use Rattle.units.proofs.AnswerLaws.{answer-tells, set-refused}
 use Rattle.parameters.specs.declared.Parameters.{Parameters}
 use Rattle.parameters.specs.ParameterSet.{setRefusal}
 use Rattle.constants.specs.declared.Constants.{Constants}
@@ -13,12 +13,8 @@ use Rattle.constants.specs.Derived.{constantsOf}
 use Rattle.azimuthal_forward.specs.Steps.{near-enough}
 use Rattle.azimuthal_inverse.specs.declared.GeodeticAnswer.the-variants.{Position, Refused}
 use Rattle.azimuthal_inverse.specs.Steps.{at-origin, on-map, K, G, found}
-use Rattle.azimuthal_inverse.specs.Answer.{geodeticAnswer, positionOf, farFrom, latitudeFrom, longitudeFrom, answerFrom, inverseFar}
+use Rattle.azimuthal_inverse.specs.Answer.{positionOf, farFrom, latitudeFrom, longitudeFrom, answerFrom, inverseFar}
 use Rattle.azimuthal_inverse.specs.Answer.{inverseRefusal, inverseLatitude, inverseLongitude, geodetic-told, inverseOf, inverseTold}
-
-pub geodetic-tells : (n : ℕ) (φ : Geodetic) (lon : ℤ) → geodetic-told (geodeticAnswer n φ lon) ≡ told n (φ .0) lon
-geodetic-tells zero φ lon = refl
-geodetic-tells (suc n) φ lon = refl
 
 -- ---- a point counted from the false origin
 
@@ -48,12 +44,12 @@ module _ (p : Parameters) (k : Constants) (dE dN : ℤ) where
 module _ (p : Parameters) (E N : ℤ) where
   pub inverse-tells : geodetic-told (inverseOf p E N) ≡ inverseTold p E N
   unfolding inverseOf inverseTold
-  inverse-tells = geodetic-tells (inverseRefusal p E N) (inverseLatitude p E N) (inverseLongitude p E N)
+  inverse-tells = answer-tells geodetic-told Refused (inverseRefusal p E N) (Position (inverseLatitude p E N) (inverseLongitude p E N))
 
   pub inverse-set-refused : (n : ℕ) → (n ≡ 0 → ⊥) → setRefusal p ≡ n → inverseOf p E N ≡ Refused n
   unfolding inverseOf inverseRefusal
-  inverse-set-refused zero some-number e = absurd (some-number refl)
-  inverse-set-refused (suc n) some-number e = rw e
+  inverse-set-refused =
+      set-refused Refused (Position (inverseLatitude p E N) (inverseLongitude p E N)) (setRefusal p) (unless (on-plane E N) out-of-limits (inverseFar p E N))
 
   -- with an accepted set
   module _ (ok : setRefusal p ≡ 0) where

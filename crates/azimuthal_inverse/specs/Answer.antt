@@ -1,10 +1,11 @@
 -- The answer of the inverse steps, document 01, "Inverse steps" and "Refusal numbers": one refusal number and one pair of values.
-use Prim.Native.Nat.{ℕ, zero, suc}
+use Prim.Native.Nat.{ℕ}
 use mathlib.Core.Bool.{cond}
 use lib.IntN.{ℤ, _+ℤ_, _-ℤ_}
 use Rattle.units.specs.Spans.{on-plane, wrapped}
 use Rattle.units.specs.Refusals.{out-of-limits, too-far, unless, firstOf}
-use Rattle.units.specs.Answers.{Told, accepted, refused, told}
+use Rattle.units.specs.declared.answers.Told.{Told}
+use Rattle.units.specs.Answers.{accepted, refused, answered}
 use Rattle.latitudes.specs.declared.Geodetic.{Geodetic}
 use Rattle.latitudes.specs.declared.AuthalicSeries.{AuthalicSeries}
 use Rattle.latitudes.specs.Latitude.{geodetic}
@@ -17,11 +18,6 @@ use Rattle.azimuthal_inverse.specs.declared.GeodeticAnswer.{GeodeticAnsw
 use Rattle.azimuthal_inverse.specs.declared.GeodeticAnswer.the-variants.{Position, Refused}
 use Rattle.azimuthal_inverse.specs.declared.SpherePoint.{SpherePoint}
 use Rattle.azimuthal_inverse.specs.Steps.{at-origin, on-map, K, G, found, latitudeOf, longitudeOf}
-
--- latitude and longitude in mas where the refusal number is 0, else the number alone
-abbrev pub geodeticAnswer : ℕ → Geodetic → ℤ → GeodeticAnswer
-geodeticAnswer zero φ lon = Position φ lon
-geodeticAnswer (suc n) φ lon = Refused (suc n)
 
 -- the position of a point of the sphere
 abbrev pub positionOf : AuthalicSeries → ℤ → SpherePoint → GeodeticAnswer
@@ -42,7 +38,7 @@ module _ (p : Parameters) (k : Constants) (dE dN : ℤ) where
   longitudeFrom = cond (at-origin dE dN) (p .lon0) (wrapped (p .lon0 +ℤ longitudeOf (found k dE dN)))
 
   abbrev pub answerFrom : GeodeticAnswer
-  answerFrom = geodeticAnswer farFrom latitudeFrom longitudeFrom
+  answerFrom = answered Refused farFrom (Position latitudeFrom longitudeFrom)
 
 -- A set, an easting and a northing.
 module _ (p : Parameters) (E N : ℤ) where
@@ -66,7 +62,7 @@ geodetic-told (Refused number) = refused number
 
 -- what `inverse` answers, and what its answer tells
 unfoldable pub inverseOf : Parameters → ℤ → ℤ → GeodeticAnswer
-inverseOf p E N = geodeticAnswer (inverseRefusal p E N) (inverseLatitude p E N) (inverseLongitude p E N)
+inverseOf p E N = answered Refused (inverseRefusal p E N) (Position (inverseLatitude p E N) (inverseLongitude p E N))
 
 unfoldable pub inverseTold : Parameters → ℤ → ℤ → Told
-inverseTold p E N = told (inverseRefusal p E N) (inverseLatitude p E N .0) (inverseLongitude p E N)
+inverseTold p E N = answered refused (inverseRefusal p E N) (accepted (inverseLatitude p E N .0) (inverseLongitude p E N))

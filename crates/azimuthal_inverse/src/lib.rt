@@ -20,6 +20,9 @@ use sine_table::Table;
 use trig::angle;
 use units::HALF_TURN;
 use units::UNIT;
+use units::answers::Told;
+use units::answers::accepted;
+use units::answers::refused;
 use units::are_within;
 use units::is_on_plane;
 use units::refusals::OUT_OF_LIMITS;
@@ -192,4 +195,17 @@ pub fn inverse(p: Parameters, easting: i64, northing: i64) -> GeodeticAnswer
     }
     let t = sine_table::table();
     inverse_point(&t, p, constants_of(&t, p), easting, northing)
+}
+
+// What an answer tells.
+pub fn geodetic_told(answer: GeodeticAnswer) -> Told
+    ensures { λ r. ⌜ r ≡ geodetic-told answer ⌝ }
+{
+    match answer {
+        GeodeticAnswer::Position {
+            latitude,
+            longitude,
+        } => accepted(latitude.0, longitude),
+        GeodeticAnswer::Refused(number) => refused(number),
+    }
 }

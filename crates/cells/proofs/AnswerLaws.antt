@@ -2,27 +2,24 @@
 -- numbers are answered only where both tests pass; the numbers are the cell numbers, and those are the only cell. Assumes nothing.
 use mathlib.Core.Path.{_≡_, refl, sym, ap₂, _∙_, subst}
 use mathlib.Core.Bool.{Bool, true, false}
-use Prim.Native.Nat.{ℕ, zero, suc, _<_}
+use Prim.Native.Nat.{ℕ, _<_}
 use native.Mathlib.Omega.{arith}
 use lib.IntN.{ℤ, natAbs}
 use Rattle.units.specs.Spans.{on-plane}
 use Rattle.units.specs.Refusals.{out-of-limits, unless}
-use Rattle.units.specs.Answers.{told}
+use Rattle.units.specs.Answers.{answered}
+use Rattle.units.proofs.AnswerLaws.{answer-tells}
 use Rattle.cells.specs.declared.CellAnswer.{CellAnswer}
 use Rattle.cells.specs.declared.CellAnswer.the-variants.{Cell, Refused}
-use Rattle.cells.specs.Cells.{InCell, accepted-side, cellNumber, cellRefusal, cellAnswer, cell-told, cellOf, cellTold}
+use Rattle.cells.specs.Cells.{InCell, accepted-side, cellNumber, cellRefusal, cell-told, cellOf, cellTold}
 use Rattle.cells.specs.Theorems.{AnswerHolds, CellAnswered, CellNumbers}
 use Rattle.cells.proofs.Sides.{side-above-1}
 use Rattle.cells.proofs.NumberLaws.{in-cell, cell-only}
 
-tells : (n : ℕ) (east north : ℤ) → cell-told (cellAnswer n east north) ≡ told n east north
-tells zero east north = refl
-tells (suc n) east north = refl
-
 module _ (side E N : ℤ) where
   pub cell-tells : cell-told (cellOf side E N) ≡ cellTold side E N
   unfolding cellOf cellTold
-  cell-tells = tells (cellRefusal side E N) (cellNumber (natAbs side) E) (cellNumber (natAbs side) N)
+  cell-tells = answer-tells cell-told Refused (cellRefusal side E N) (Cell (cellNumber (natAbs side) E) (cellNumber (natAbs side) N))
 
   -- ---- by the tests
 
@@ -46,7 +43,7 @@ module _ (side E N : ℤ) where
 module _ (x y : ℤ) where
   -- the answer with the numbers x and y, by the results of the two tests
   abbrev by-tests : Bool → Bool → CellAnswer
-  by-tests s p = cellAnswer (unless s out-of-limits (unless p out-of-limits 0)) x y
+  by-tests s p = answered Refused (unless s out-of-limits (unless p out-of-limits 0)) (Cell x y)
 
   numbers-given : (s p : Bool) {east north : ℤ} → by-tests s p ≡ Cell east north → (s ≡ true) × (x ≡ east) × (y ≡ north)
   numbers-given true true a = (refl, (cc), (cc))

@@ -1,12 +1,13 @@
 -- Document 01, "Cells": the numbers of the cell that a position lies in, or the refusal. Sides and coordinates are in cm.
-use Prim.Native.Nat.{ℕ, zero, suc, _/_, _<_, _≤_}
+use Prim.Native.Nat.{ℕ, _/_, _<_, _≤_}
 use mathlib.Core.Bool.{Bool, _||_}
 use lib.IntN.{ℤ, pos, natAbs, _-ℤ_, _*ℤ_}
 use lib.Signed.{ltZ}
 use Rattle.integers.specs.Near.{signed}
 use Rattle.units.specs.Spans.{same, on-plane}
 use Rattle.units.specs.Refusals.{out-of-limits, unless}
-use Rattle.units.specs.Answers.{Told, accepted, refused, told}
+use Rattle.units.specs.declared.answers.Told.{Told}
+use Rattle.units.specs.Answers.{accepted, refused, answered}
 use Rattle.cells.specs.declared.CellAnswer.{CellAnswer}
 use Rattle.cells.specs.declared.CellAnswer.the-variants.{Cell, Refused}
 
@@ -31,11 +32,6 @@ accepted-side side = same side (pos 10_000) || same side (pos 100_000) || same s
 unfoldable pub cellRefusal : ℤ → ℤ → ℤ → ℕ
 cellRefusal side E N = unless (accepted-side side) out-of-limits (unless (on-plane E N) out-of-limits 0)
 
--- the cell's numbers where the refusal number is 0, else the number alone
-abbrev pub cellAnswer : ℕ → ℤ → ℤ → CellAnswer
-cellAnswer zero east north = Cell east north
-cellAnswer (suc n) east north = Refused (suc n)
-
 -- the number and the values of each case
 abbrev pub cell-told : CellAnswer → Told
 cell-told (Cell east north) = accepted east north
@@ -43,7 +39,7 @@ cell-told (Refused number) = refused number
 
 -- what `cell` answers, and what its answer tells
 unfoldable pub cellOf : ℤ → ℤ → ℤ → CellAnswer
-cellOf side E N = cellAnswer (cellRefusal side E N) (cellNumber (natAbs side) E) (cellNumber (natAbs side) N)
+cellOf side E N = answered Refused (cellRefusal side E N) (Cell (cellNumber (natAbs side) E) (cellNumber (natAbs side) N))
 
 unfoldable pub cellTold : ℤ → ℤ → ℤ → Told
-cellTold side E N = told (cellRefusal side E N) (cellNumber (natAbs side) E) (cellNumber (natAbs side) N)
+cellTold side E N = answered refused (cellRefusal side E N) (accepted (cellNumber (natAbs side) E) (cellNumber (natAbs side) N))

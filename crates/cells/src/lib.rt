@@ -1,6 +1,9 @@
 // The cell of a position: document 01, "Cells". Sides and coordinates are in cm.
 use integers::magnitude;
 use integers::signed;
+use units::answers::Told;
+use units::answers::accepted;
+use units::answers::refused;
 use units::is_on_plane;
 use units::refusals::OUT_OF_LIMITS;
 ghost use mathlib.Core.Path.{_≡_};
@@ -64,5 +67,15 @@ pub fn cell(side: i64, easting: i64, northing: i64) -> CellAnswer
     CellAnswer::Cell {
         east: cell_number(side, easting),
         north: cell_number(side, northing),
+    }
+}
+
+// What an answer tells.
+pub fn cell_told(answer: CellAnswer) -> Told
+    ensures { λ r. ⌜ r ≡ cell-told answer ⌝ }
+{
+    match answer {
+        CellAnswer::Cell { east, north } => accepted(east, north),
+        CellAnswer::Refused(number) => refused(number),
     }
 }

@@ -6,13 +6,8 @@ use lib.Dec.{leb, eqb}
 use lib.IntN.{ℤ, natAbs, _-ℤ_}
 use Rattle.integers.specs.Near.{nearest}
 use Rattle.units.specs.Units.{unit}
-use Rattle.units.specs.Answers.{Told}
-use Rattle.judging.specs.declared.gaps.Answer.{Answer}
+use Rattle.units.specs.declared.answers.Told.{Told}
 use Rattle.judging.specs.declared.gaps.Gaps.{Gaps}
-
--- what an answer tells, as the code holds it
-abbrev pub toldOf : Answer → Told
-toldOf a = record { refusal = a .refusal; first = a .first; second = a .second }
 
 -- the sizes of the differences, in the answers' own units
 abbrev pub gapsOf : Told → Told → Gaps

@@ -3,44 +3,17 @@ use integers::excess;
 use integers::magnitude;
 use integers::nearest;
 use units::UNIT_DIVISOR;
+use units::answers::Told;
 ghost use mathlib.Core.Path.{_≡_};
 ghost use Prim.Native.Nat.{_<_, _≤_};
 ghost use lib.IntN.{natAbs, _-ℤ_};
 ghost use Rattle.units.specs.Units.{unit};
-ghost use Rattle.units.specs.Answers.{accepted, refused};
-ghost use Rattle.judging.specs.Gaps.{toldOf, gapsOf, cap, capped, part, onGround, isRight};
-
-// What an answer tells: its refusal number, 0 where it has none; then its two values, 0 and 0 where it is refused.
-pub struct Answer {
-    pub refusal: u8,
-    pub first: i64,
-    pub second: i64,
-}
+ghost use Rattle.judging.specs.Gaps.{gapsOf, cap, capped, part, onGround, isRight};
 
 // The sizes of the differences of two pairs of values.
 pub struct Gaps {
     pub first: u64,
     pub second: u64,
-}
-
-pub fn accepted(first: i64, second: i64) -> Answer
-    ensures { λ r. ⌜ toldOf r ≡ accepted first second ⌝ }
-{
-    Answer {
-        refusal: 0,
-        first,
-        second,
-    }
-}
-
-pub fn refused(number: u8) -> Answer
-    ensures { λ r. ⌜ toldOf r ≡ refused number ⌝ }
-{
-    Answer {
-        refusal: number,
-        first: 0,
-        second: 0,
-    }
 }
 
 // The size of x − y: where the signs differ the sizes add up, else one is taken from the other.
@@ -57,8 +30,8 @@ pub fn gap(x: i64, y: i64) -> u64
     m + n
 }
 
-pub fn gaps_of(found: Answer, right: Answer) -> Gaps
-    ensures { λ r. ⌜ r ≡ gapsOf (toldOf found) (toldOf right) ⌝ }
+pub fn gaps_of(found: Told, right: Told) -> Gaps
+    ensures { λ r. ⌜ r ≡ gapsOf found right ⌝ }
 {
     Gaps {
         first: gap(found.first, right.first),
@@ -105,8 +78,8 @@ pub fn on_ground(radius: i64, cosine: i64, off: Gaps) -> Gaps
 }
 
 // Whether an answer that is off by this is the one expected, with at most so much in either value.
-pub fn is_right(found: Answer, right: Answer, off: Gaps, most: u64) -> bool
-    ensures { λ r. ⌜ r ≡ isRight (toldOf found) (toldOf right) off most ⌝ }
+pub fn is_right(found: Told, right: Told, off: Gaps, most: u64) -> bool
+    ensures { λ r. ⌜ r ≡ isRight found right off most ⌝ }
 {
     if found.refusal != right.refusal {
         return false;

@@ -6,7 +6,8 @@ use mathlib.Core.List.{List, [], _∷_}
 use lib.IntN.{ℤ}
 use lib.Ieee.{Float}
 use Rattle.parameters.specs.declared.Parameters.{Parameters}
-use Rattle.units.specs.Answers.{Told}
+use Rattle.parameters.specs.ParameterSet.{setOf}
+use Rattle.units.specs.declared.answers.Told.{Told}
 use Rattle.points.specs.declared.pairs.Row.{Row}
 use Rattle.point_lists.specs.declared.ListAnswer.{ListAnswer}
 use Rattle.point_lists.specs.declared.ListAnswer.the-variants.{Count, Refused}
@@ -18,16 +19,8 @@ abbrev pub version : ℕ
 version = 200
 
 -- the parameter set of these fields
-abbrev pub setOf : Set → Parameters
-setOf set =
-    record {
-      a = set .a;
-      e2 = set .e2;
-      lat0 = record { 0 = set .lat0 };
-      lon0 = set .lon0;
-      «false_easting» = set .«false_easting»;
-      «false_northing» = set .«false_northing»;
-    }
+abbrev pub parametersOf : Set → Parameters
+parametersOf set = setOf (set .a) (set .e2) (set .lat0) (set .lon0) (set .«false_easting») (set .«false_northing»)
 
 -- ---- one point
 

@@ -9,7 +9,7 @@ use points::pairs::plane_row;
 use points::single::forward_degrees;
 use points::single::inverse_metres;
 ghost use Rattle.points.specs.Pairs.{forwardRow, inverseRow, degrees, metres};
-ghost use Rattle.laea_c.specs.Calls.{setOf, AnswersFloats};
+ghost use Rattle.laea_c.specs.Calls.{parametersOf, AnswersFloats};
 
 // Writes the two values where the refusal number is 0, and only there. Returns the number.
 fn answer_floats(answer: Row, out: &mut [f64; 2]) -> u8
@@ -24,7 +24,7 @@ fn answer_floats(answer: Row, out: &mut [f64; 2]) -> u8
 // Degrees to metres: easting and northing.
 #[no_mangle]
 pub extern "C" fn laea1_forward(set: Set, latitude: f64, longitude: f64, out: &mut [f64; 2]) -> u8
-    ensures { λ r. ⌜ AnswersFloats (forwardRow (setOf set) (degrees latitude longitude)) (now (out .entry)) (now (out .exit)) r ⌝ }
+    ensures { λ r. ⌜ AnswersFloats (forwardRow (parametersOf set) (degrees latitude longitude)) (now (out .entry)) (now (out .exit)) r ⌝ }
 {
     let at = GeodeticPair {
         latitude,
@@ -36,7 +36,7 @@ pub extern "C" fn laea1_forward(set: Set, latitude: f64, longitude: f64, out: &m
 // Metres to degrees: latitude and longitude.
 #[no_mangle]
 pub extern "C" fn laea1_inverse(set: Set, first: f64, second: f64, out: &mut [f64; 2]) -> u8
-    ensures { λ r. ⌜ AnswersFloats (inverseRow (setOf set) (metres first second)) (now (out .entry)) (now (out .exit)) r ⌝ }
+    ensures { λ r. ⌜ AnswersFloats (inverseRow (parametersOf set) (metres first second)) (now (out .entry)) (now (out .exit)) r ⌝ }
 {
     let at = PlanePair { first, second };
     answer_floats(geodetic_row(inverse_metres(parameters_of(set), at)), out)

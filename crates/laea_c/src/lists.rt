@@ -6,7 +6,7 @@ use point_lists::forward_list;
 use point_lists::inverse_list;
 ghost use mathlib.Core.Path.{_≡_};
 ghost use Rattle.point_lists.specs.Lists.{forwardAt, inverseAt, list-told};
-ghost use Rattle.laea_c.specs.Calls.{setOf, countAfter, ListAnswered};
+ghost use Rattle.laea_c.specs.Calls.{parametersOf, countAfter, ListAnswered};
 
 // Writes the count where there is one, and only there. Returns the refusal number; 0 is none.
 fn answer_list(answer: ListAnswer, count: &mut u64) -> u8
@@ -33,7 +33,7 @@ pub extern "C" fn laea1_forward_list(
     marks: &mut [u8],
     count: &mut u64,
 ) -> u8
-    ensures { λ r. ⌜ ListAnswered (setOf set) forwardAt (now (latitudes .entry)) (now (longitudes .entry))
+    ensures { λ r. ⌜ ListAnswered (parametersOf set) forwardAt (now (latitudes .entry)) (now (longitudes .entry))
         (now (leading .entry)) (now (leading .exit)) (now (trailing .entry)) (now (trailing .exit))
         (now (marks .entry)) (now (marks .exit)) (now (count .entry)) (now (count .exit)) r ⌝ }
 {
@@ -55,7 +55,7 @@ pub extern "C" fn laea1_inverse_list(
     marks: &mut [u8],
     count: &mut u64,
 ) -> u8
-    ensures { λ r. ⌜ ListAnswered (setOf set) inverseAt (now (leading .entry)) (now (trailing .entry))
+    ensures { λ r. ⌜ ListAnswered (parametersOf set) inverseAt (now (leading .entry)) (now (trailing .entry))
         (now (latitudes .entry)) (now (latitudes .exit)) (now (longitudes .entry)) (now (longitudes .exit))
         (now (marks .entry)) (now (marks .exit)) (now (count .entry)) (now (count .exit)) r ⌝ }
 {

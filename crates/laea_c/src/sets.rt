@@ -3,7 +3,7 @@ use latitudes::Geodetic;
 use parameters::Parameters;
 ghost use mathlib.Core.Path.{_≡_};
 ghost use Rattle.parameters.specs.ParameterSet.{setRefusal};
-ghost use Rattle.laea_c.specs.Calls.{setOf};
+ghost use Rattle.laea_c.specs.Calls.{parametersOf};
 
 // The fields of document 01's table, in its order. A change of this layout changes the number in
 // the functions' names.
@@ -19,7 +19,7 @@ pub struct Set {
 
 // The library's set of these fields.
 pub(crate) fn parameters_of(set: Set) -> Parameters
-    ensures { λ r. ⌜ r ≡ setOf set ⌝ }
+    ensures { λ r. ⌜ r ≡ parametersOf set ⌝ }
 {
     Parameters {
         a: set.a,
@@ -34,7 +34,7 @@ pub(crate) fn parameters_of(set: Set) -> Parameters
 // The refusal of a set; 0 is none: the set is accepted.
 #[no_mangle]
 pub extern "C" fn laea1_set_refusal(set: Set) -> u8
-    ensures { λ r. ⌜ r ≡ setRefusal (setOf set) ⌝ }
+    ensures { λ r. ⌜ r ≡ setRefusal (parametersOf set) ⌝ }
 {
     parameters_of(set).refusal()
 }

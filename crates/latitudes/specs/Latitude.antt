@@ -13,6 +13,10 @@ use Rattle.latitudes.specs.declared.Geodetic.{Geodetic}
 use Rattle.latitudes.specs.declared.Authalic.{Authalic}
 use Rattle.latitudes.specs.declared.AuthalicSeries.{AuthalicSeries}
 
+-- so many mas north of the Equator, as a geodetic latitude
+abbrev pub latitude : ℤ → Geodetic
+latitude φ = record { 0 = φ }
+
 abbrev pub coefficients : ℤ → ℤ → ℤ → AuthalicSeries
 coefficients k2 k4 k6 = record { k2 = k2; k4 = k4; k6 = k6 }
 
@@ -32,7 +36,7 @@ beta k φ = record { 0 = φ .0 -ℤ rounded k φ }
 
 -- "φ is the greatest latitude from −90° to 90° whose β is not above the one found": the latitudes are counted from −90°.
 unfoldable pub from-south-pole : ℕ → Geodetic
-from-south-pole n = record { 0 = pos n -ℤ pos right-angle }
+from-south-pole n = latitude (pos n -ℤ pos right-angle)
 
 unfoldable pub not-above : AuthalicSeries → Authalic → ℕ → Bool
 not-above k β n = leZ (beta k (from-south-pole n) .0) (β .0)

@@ -3,7 +3,8 @@ use mathlib.Core.Path.{ap}
 use mathlib.Core.List.{[], _∷_, _++_}
 use Rattle.requests.specs.declared.Request.{Request}
 use Rattle.requests.proofs.Long.{kept-alike}
-use Rattle.lines.specs.Lines.{replyOf, answerText, newline, answerLine}
+use Rattle.text.specs.Ascii.{newline}
+use Rattle.lines.specs.Lines.{replyOf, answerText, answerLine}
 use Rattle.replies.specs.Replies.{replyText}
 use Rattle.lines.specs.Theorems.{AnswerKept}
 

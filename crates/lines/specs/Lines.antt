@@ -1,9 +1,11 @@
 -- Document 01, "The program": one line in, one line out, for ETRS-LAEA in whole units. Bytes are ASCII.
 use Prim.Native.Nat.{ℕ}
 use mathlib.Core.List.{List, [], _∷_, _++_}
+use Rattle.text.specs.Ascii.{newline}
 use Rattle.requests.specs.declared.Request.{Request}
 use Rattle.requests.specs.declared.Request.the-variants.{Forward, Inverse, Bad}
 use Rattle.requests.specs.Requests.{requestOf}
+use Rattle.latitudes.specs.Latitude.{latitude}
 use Rattle.parameters.specs.ParameterSet.{etrsLaea}
 use Rattle.azimuthal_forward.specs.declared.PlaneAnswer.{PlaneAnswer}
 use Rattle.azimuthal_forward.specs.declared.PlaneAnswer.the-variants.{Plane, Refused}
@@ -25,16 +27,13 @@ positionReply (Position φ lon) = PositionReply (φ .0) lon
 positionReply (NotFound number) = RefusedReply number
 
 unfoldable pub replyOf : Request → Reply
-replyOf (Forward φ lon) = planeReply (forwardOf etrsLaea (record { 0 = φ }) lon)
+replyOf (Forward φ lon) = planeReply (forwardOf etrsLaea (latitude φ) lon)
 replyOf (Inverse E N) = positionReply (inverseOf etrsLaea E N)
 replyOf Bad = BadReply
 
 -- the text that a line is answered with, and the line of it, with its end
 unfoldable pub answerText : List ℕ → List ℕ
 answerText line = replyText (replyOf (requestOf line))
-
-abbrev pub newline : ℕ
-newline = 10
 
 unfoldable pub answerLine : List ℕ → List ℕ
 answerLine line = answerText line ++ (newline ∷ [])

@@ -10,7 +10,9 @@ use Rattle.floats.specs.Conversion.{wholeOf}
 use Rattle.sine_table.specs.Table.{entry}
 use Rattle.trig.specs.Sine.{sine}
 use Rattle.trig.specs.Angle.{angle}
+use Rattle.latitudes.specs.Latitude.{latitude}
 use Rattle.parameters.specs.declared.Parameters.{Parameters}
+use Rattle.parameters.specs.ParameterSet.{setOf}
 use Rattle.azimuthal_forward.specs.declared.PlaneAnswer.{PlaneAnswer}
 use Rattle.azimuthal_forward.specs.declared.PlaneAnswer.the-variants.{Plane}
 use Rattle.azimuthal_forward.specs.Answer.{forwardOf}
@@ -29,15 +31,7 @@ All ((a goes-to b) ∷ cases) = (a ≡ b) × All cases
 
 -- "the sphere a = 600,000,000 with centre (0, 0) and no false origin"
 abbrev pub sphere : Parameters
-sphere =
-    record {
-      a = pos 600_000_000;
-      e2 = pos 0;
-      lat0 = record { 0 = pos 0 };
-      lon0 = pos 0;
-      «false_easting» = pos 0;
-      «false_northing» = pos 0;
-    }
+sphere = setOf (pos 600_000_000) (pos 0) (pos 0) (pos 0) (pos 0) (pos 0)
 
 -- A double is its sign (true: negative), m and e, and its size m · 2^e: 1/256 is 1 · 2^−8.
 abbrev pub P : List Case
@@ -54,7 +48,7 @@ P =
     ∷ (wholeOf degree (fin false 1 (negℤ (pos 8))) is pos 14_063)
     ∷ (wholeOf degree (fin true 1 (negℤ (pos 8))) is negℤ (pos 14_063))
     ∷ (wholeOf metre (fin false 1 (negℤ (pos 3))) is pos 13)
-    ∷ (forwardOf sphere (record { 0 = pos 0 }) (pos right-angle) goes-to Plane (pos 848_528_138) (pos 0))
+    ∷ (forwardOf sphere (latitude (pos 0)) (pos right-angle) goes-to Plane (pos 848_528_138) (pos 0))
     ∷ []
 
 -- "Proved together as a single table, marked P"

@@ -8,6 +8,7 @@ use Rattle.units.specs.Units.{right-angle, half-turn}
 use Rattle.units.specs.Spans.{within, same, inside}
 use Rattle.units.specs.Refusals.{bad-set, unless}
 use Rattle.latitudes.specs.declared.Geodetic.{Geodetic}
+use Rattle.latitudes.specs.Latitude.{latitude}
 use Rattle.parameters.specs.declared.Parameters.{Parameters}
 
 -- a row of the table for each field
@@ -42,14 +43,11 @@ setRefusal p =
     (unless (accepted-lon0 (p .lon0)) bad-set
     (unless (accepted-false (p .«false_easting»)) bad-set (unless (accepted-false (p .«false_northing»)) bad-set 0)))))
 
+-- a set by its fields, in the table's order
+abbrev pub setOf : ℤ → ℤ → ℤ → ℤ → ℤ → ℤ → Parameters
+setOf a e2 φ0 lon0 FE FN =
+    record { a = a; e2 = e2; lat0 = latitude φ0; lon0 = lon0; «false_easting» = FE; «false_northing» = FN }
+
 -- "a 637,813,700; e2 6,694,380; φ0 187,200,000; lon0 36,000,000; FE 432,100,000; FN 321,000,000"
 abbrev pub etrsLaea : Parameters
-etrsLaea =
-    record {
-      a = pos 637_813_700;
-      e2 = pos 6_694_380;
-      lat0 = record { 0 = pos 187_200_000 };
-      lon0 = pos 36_000_000;
-      «false_easting» = pos 432_100_000;
-      «false_northing» = pos 321_000_000;
-    }
+etrsLaea = setOf (pos 637_813_700) (pos 6_694_380) (pos 187_200_000) (pos 36_000_000) (pos 432_100_000) (pos 321_000_000)

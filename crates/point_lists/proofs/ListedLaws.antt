@@ -1,11 +1,10 @@
 -- The refusal of a list call, and the two ways in which a call ends. Assumes nothing.
 use borrow.Author.Tests.{eqb-true}
 use mathlib.Core.Path.{_≡_, refl, sym, ap}
-use mathlib.Core.Bool.{Bool, true, false, _&&_}
+use mathlib.Core.Bool.{_&&_}
 use mathlib.Core.List.{List}
 use Prim.Native.Nat.{ℕ, zero, suc}
-use native.Mathlib.Omega.{arith}
-use lib.Dec.{eqb, leb}
+use lib.Dec.{eqb}
 use lib.Ieee.{Float}
 use lib.ListN.{length}
 use Rattle.parameters.specs.declared.Parameters.{Parameters}
@@ -15,7 +14,7 @@ use Rattle.parameters.specs.ParameterSet.{setRefusal}
 use Rattle.integers.proofs.Greatest.{both}
 use Rattle.points.specs.declared.pairs.Row.{Row}
 use Rattle.point_lists.specs.declared.ListAnswer.the-variants.{Count, Refused}
-use Rattle.point_lists.specs.Lists.{firstValues, secondValues, marks, longest, lengthRefusal, listRefusal, zeros, Listed}
+use Rattle.point_lists.specs.Lists.{firstValues, secondValues, marks, lengthRefusal, listRefusal, zeros, Listed}
 
 -- 5 comes first, so without refusal the lengths are equal
 pub equal-lengths : (a b c d e : ℕ) → lengthRefusal a b c d e ≡ 0 → (b ≡ a) × (c ≡ a) × (d ≡ a) × (e ≡ a)

@@ -7,6 +7,7 @@ use lib.Dec.{eqb, leb}
 use lib.Ieee.{Float}
 use lib.ListN.{length}
 use Rattle.units.specs.Refusals.{unequal-lists, long-lists, unless, firstOf}
+use Rattle.units.specs.Answers.{answered}
 use Rattle.parameters.specs.declared.Parameters.{Parameters}
 use Rattle.parameters.specs.ParameterSet.{setRefusal}
 use Rattle.points.specs.declared.pairs.Row.{Row}
@@ -63,13 +64,11 @@ zeros (suc m ∷ ms) = zeros ms
 
 -- "Calls refused by 5, 6 or 1 write nothing": a lent list after the call, from what a call without refusal writes and what was there
 abbrev pub written : {A : Type 0} → ℕ → List A → List A → List A
-written zero new old = new
-written (suc n) new old = old
+written refusal new old = answered (λ (n : ℕ). old) refusal new
 
 -- "and return the number, no count"
 abbrev pub listAnswer : ℕ → ℕ → ListAnswer
-listAnswer zero count = Count count
-listAnswer (suc n) count = Refused (suc n)
+listAnswer refusal count = answered Refused refusal (Count count)
 
 -- what the answer tells: its refusal number, 0 where it has none, and the count, 0 where it has none
 pub record Counted : Type 0 where
@@ -80,10 +79,6 @@ abbrev pub list-told : ListAnswer → Counted
 list-told (Count count) = record { refusal = 0; count = count }
 list-told (Refused number) = record { refusal = number; count = 0 }
 
-abbrev pub counted : ℕ → ℕ → Counted
-counted zero count = record { refusal = 0; count = count }
-counted (suc n) count = record { refusal = suc n; count = 0 }
-
 -- The lists lent for writing, before and after a call with this refusal on these points, and its answer.
 pub record Listed (refusal : ℕ) (points : List Row) (first first′ second second′ : List Float) (mark mark′ : List ℕ) (answer : ListAnswer)
     : Type 0 where
@@ -91,7 +86,7 @@ pub record Listed (refusal : ℕ) (points : List Row) (first first′ second sec
   pub second-are : second′ ≡ written refusal (secondValues points) second
   pub marks-are : mark′ ≡ written refusal (marks points) mark
   pub answer-is : answer ≡ listAnswer refusal (zeros mark′)
-  pub answer-tells : list-told answer ≡ counted refusal (zeros mark′)
+  pub answer-tells : list-told answer ≡ record { refusal = refusal; count = answered (λ (n : ℕ). 0) refusal (zeros mark′) }
 
 -- a call that works out each point by `row`
 abbrev pub ListCall :

@@ -1,7 +1,7 @@
 -- The list calls that are run, and when a row of one ends in "ok".
 use Prim.Native.Nat.{ℕ, zero, suc}
 use mathlib.Core.Bool.{Bool, false, _&&_}
-use mathlib.Core.List.{List, [], _∷_, _++_, map}
+use mathlib.Core.List.{List, [], _∷_, _++_}
 use lib.IntN.{pos, negsuc}
 use lib.Ieee.{Float, nan, fin, binary64, mul, ofInt}
 use lib.ListN.{getD, take, drop, replicate}

@@ -18,7 +18,7 @@ use printing::words;
 use printing::words::word;
 ghost use mathlib.Core.Path.{_≡_};
 ghost use Rattle.judging.specs.Doubles.{alike};
-ghost use Rattle.points.specs.Pairs.{row};
+ghost use Rattle.points.specs.Pairs.{acceptedRow, refusedRow};
 ghost use Rattle.point_lists.specs.Lists.{rowOf};
 
 // From degrees to metres, and back.
@@ -28,7 +28,7 @@ pub(crate) const INVERSE: bool = false;
 
 // An answer that is accepted.
 pub(crate) fn accepted(first: f64, second: f64) -> Row
-    ensures { λ r. ⌜ r ≡ row 0 first second ⌝ }
+    ensures { λ r. ⌜ r ≡ acceptedRow first second ⌝ }
 {
     Row {
         mark: 0,
@@ -38,7 +38,9 @@ pub(crate) fn accepted(first: f64, second: f64) -> Row
 }
 
 // An answer that is refused.
-pub(crate) fn refused(number: u8) -> Row {
+pub(crate) fn refused(number: u8) -> Row
+    ensures { λ r. ⌜ r ≡ refusedRow number ⌝ }
+{
     plane_row(PlanePairAnswer::Refused(number))
 }
 

@@ -1,13 +1,15 @@
 -- Document 01, "Degrees and metres" and "Refusal numbers": one pair of doubles, forward and back. Each call has one refusal number and one pair of values.
-use Prim.Native.Nat.{ℕ, zero, suc}
+use Prim.Native.Nat.{ℕ}
 use mathlib.Core.Bool.{Bool, false, _&&_}
 use lib.IntN.{ℤ, pos}
 use lib.Ieee.{Float, fin}
 use Rattle.units.specs.Units.{degree, metre}
 use Rattle.units.specs.Refusals.{not-finite, out-of-limits, unless, firstOf}
+use Rattle.units.specs.Answers.{answered}
 use Rattle.floats.specs.Conversion.{wholeOf, floatOf}
 use Rattle.floats.specs.Limits.{isFinite, withinLimit, latitudeLimit, longitudeLimit, planeLimit}
 use Rattle.latitudes.specs.declared.Geodetic.{Geodetic}
+use Rattle.latitudes.specs.Latitude.{latitude}
 use Rattle.parameters.specs.declared.Parameters.{Parameters}
 use Rattle.parameters.specs.ParameterSet.{setRefusal}
 use Rattle.azimuthal_forward.specs.declared.PlaneAnswer.{PlaneAnswer}
@@ -34,7 +36,7 @@ metres first second = record { first = first; second = second }
 
 -- "Degrees to mas: near(value · 3,600,000) of the double's exact value."
 unfoldable pub latitudeMas : GeodeticPair → Geodetic
-latitudeMas at = record { 0 = wholeOf degree (at .latitude) }
+latitudeMas at = latitude (wholeOf degree (at .latitude))
 
 unfoldable pub longitudeMas : GeodeticPair → ℤ
 longitudeMas at = wholeOf degree (at .longitude)
@@ -55,32 +57,25 @@ geodeticPair φ lon = degrees (floatOf degree φ) (floatOf degree lon)
 
 -- ---- answers
 
--- a pair where the refusal number is 0, else the number alone
-abbrev pub planePairAnswer : ℕ → PlanePair → PlanePairAnswer
-planePairAnswer zero pair = Metres pair
-planePairAnswer (suc n) pair = Refused (suc n)
-
-abbrev pub geodeticPairAnswer : ℕ → GeodeticPair → GeodeticPairAnswer
-geodeticPairAnswer zero pair = Degrees pair
-geodeticPairAnswer (suc n) pair = NotFound (suc n)
-
 -- +0.0
 abbrev pub zeroFloat : Float
 zeroFloat = fin false 0 (pos 0)
 
--- the number and the values of each case, as a list holds them: "its answer and mark 0, or 0.0, 0.0 and its number"
+-- number and values as a list holds them: "its answer and mark 0, or 0.0, 0.0 and its number"
+abbrev pub acceptedRow : Float → Float → Row
+acceptedRow first second = record { mark = 0; first = first; second = second }
+
+abbrev pub refusedRow : ℕ → Row
+refusedRow number = record { mark = number; first = zeroFloat; second = zeroFloat }
+
+-- of each case
 abbrev pub plane-row : PlanePairAnswer → Row
-plane-row (Metres pair) = record { mark = 0; first = pair .first; second = pair .second }
-plane-row (Refused number) = record { mark = number; first = zeroFloat; second = zeroFloat }
+plane-row (Metres pair) = acceptedRow (pair .first) (pair .second)
+plane-row (Refused number) = refusedRow number
 
 abbrev pub geodetic-row : GeodeticPairAnswer → Row
-geodetic-row (Degrees pair) = record { mark = 0; first = pair .latitude; second = pair .longitude }
-geodetic-row (NotFound number) = record { mark = number; first = zeroFloat; second = zeroFloat }
-
--- by the refusal number and the values
-abbrev pub row : ℕ → Float → Float → Row
-row zero first second = record { mark = 0; first = first; second = second }
-row (suc n) first second = record { mark = suc n; first = zeroFloat; second = zeroFloat }
+geodetic-row (Degrees pair) = acceptedRow (pair .latitude) (pair .longitude)
+geodetic-row (NotFound number) = refusedRow number
 
 -- ---- tests
 
@@ -96,14 +91,17 @@ withinGlobe at = withinLimit latitudeLimit (at .latitude) && withinLimit longitu
 unfoldable pub withinPlane : PlanePair → Bool
 withinPlane at = withinLimit planeLimit (at .first) && withinLimit planeLimit (at .second)
 
--- ---- forward: "Single points: 1, 2, 3, 4", each exactly under its condition; 4 is that of the whole-unit steps for the rounded position
+-- ---- "Single points: 1, 2, 3, 4", each exactly under its condition; 4 is that of the whole-unit steps for the rounded position
+
+unfoldable pub pairRefusal : Parameters → Float → Float → Bool → ℕ → ℕ
+pairRefusal p x y inside far = firstOf (setRefusal p) (unless (areFinite x y) not-finite (unless inside out-of-limits far))
+
+-- ---- forward
 
 module _ (p : Parameters) (at : GeodeticPair) where
   unfoldable pub forwardPairRefusal : ℕ
   forwardPairRefusal =
-      firstOf (setRefusal p)
-      (unless (areFinite (at .latitude) (at .longitude)) not-finite
-      (unless (withinGlobe at) out-of-limits (forwardFar p (latitudeMas at) (longitudeMas at))))
+      pairRefusal p (at .latitude) (at .longitude) (withinGlobe at) (forwardFar p (latitudeMas at) (longitudeMas at))
 
   unfoldable pub forwardPair : PlanePair
   forwardPair =
@@ -111,19 +109,17 @@ module _ (p : Parameters) (at : GeodeticPair) where
 
 -- what `forward_degrees` answers, and what its answer tells
 unfoldable pub forwardDegrees : Parameters → GeodeticPair → PlanePairAnswer
-forwardDegrees p at = planePairAnswer (forwardPairRefusal p at) (forwardPair p at)
+forwardDegrees p at = answered Refused (forwardPairRefusal p at) (Metres (forwardPair p at))
 
 unfoldable pub forwardRow : Parameters → GeodeticPair → Row
-forwardRow p at = row (forwardPairRefusal p at) (forwardPair p at .first) (forwardPair p at .second)
+forwardRow p at = answered refusedRow (forwardPairRefusal p at) (acceptedRow (forwardPair p at .first) (forwardPair p at .second))
 
 -- ---- inverse
 
 module _ (p : Parameters) (at : PlanePair) where
   unfoldable pub inversePairRefusal : ℕ
   inversePairRefusal =
-      firstOf (setRefusal p)
-      (unless (areFinite (at .first) (at .second)) not-finite
-      (unless (withinPlane at) out-of-limits (inverseFar p (eastingCm at) (northingCm at))))
+      pairRefusal p (at .first) (at .second) (withinPlane at) (inverseFar p (eastingCm at) (northingCm at))
 
   unfoldable pub inversePair : GeodeticPair
   inversePair =
@@ -131,10 +127,10 @@ module _ (p : Parameters) (at : PlanePair) where
 
 -- what `inverse_metres` answers, and what its answer tells
 unfoldable pub inverseMetres : Parameters → PlanePair → GeodeticPairAnswer
-inverseMetres p at = geodeticPairAnswer (inversePairRefusal p at) (inversePair p at)
+inverseMetres p at = answered NotFound (inversePairRefusal p at) (Degrees (inversePair p at))
 
 unfoldable pub inverseRow : Parameters → PlanePair → Row
-inverseRow p at = row (inversePairRefusal p at) (inversePair p at .latitude) (inversePair p at .longitude)
+inverseRow p at = answered refusedRow (inversePairRefusal p at) (acceptedRow (inversePair p at .latitude) (inversePair p at .longitude))
 
 -- ---- the whole-unit answer in metres, in degrees
 

@@ -23,7 +23,7 @@ use Rattle.points.specs.declared.pairs.GeodeticPair.{GeodeticPair}
 use Rattle.points.specs.declared.pairs.PlanePair.{PlanePair}
 use Rattle.points.specs.declared.pairs.PlanePairAnswer.the-variants.{Metres}
 use Rattle.points.specs.declared.pairs.GeodeticPairAnswer.the-variants.{Degrees}
-use Rattle.points.specs.Pairs.{latitudeMas, longitudeMas, eastingCm, northingCm, areFinite, withinGlobe, withinPlane, plane-row, geodetic-row}
+use Rattle.points.specs.Pairs.{latitudeMas, longitudeMas, eastingCm, northingCm, areFinite, withinGlobe, withinPlane, plane-row, geodetic-row, pairRefusal}
 use Rattle.points.specs.Pairs.{forwardPairRefusal, forwardPair, forwardDegrees, forwardRow, inversePairRefusal, inversePair, inverseMetres, inverseRow}
 use Rattle.points.proofs.AnswerLaws.{forward-tells, inverse-tells, rounded-on-globe, rounded-on-plane}
 use Rattle.points.proofs.AnswerLaws.{forward-converted as converted-forward, inverse-converted as converted-inverse}
@@ -60,7 +60,7 @@ module _ (p : Parameters) (at : GeodeticPair) (pair : PlanePair) (e : forwardDeg
   forward-told = row-values (forwardPairRefusal p at) _ _ _ _ (sym (forward-tells p at) ∙ ap plane-row e)
 
   pub forward-passed : Passed (setRefusal p) (areFinite (at .latitude) (at .longitude)) (withinGlobe at) (forwardFar p φ lon)
-  unfolding forwardPairRefusal
+  unfolding forwardPairRefusal pairRefusal
   forward-passed = all-passed _ _ _ _ (forward-told .0)
 
   plane-answer : forwardOf p φ lon ≡ Plane (eastingOf p φ lon) (northingOf p φ lon)
@@ -106,7 +106,7 @@ module _ (p : Parameters) (at : PlanePair) (pair : GeodeticPair) (e : inverseMet
   inverse-told = row-values (inversePairRefusal p at) _ _ _ _ (sym (inverse-tells p at) ∙ ap geodetic-row e)
 
   pub inverse-passed : Passed (setRefusal p) (areFinite (at .first) (at .second)) (withinPlane at) (inverseFar p E N)
-  unfolding inversePairRefusal
+  unfolding inversePairRefusal pairRefusal
   inverse-passed = all-passed _ _ _ _ (inverse-told .0)
 
   geodetic-answer : inverseOf p E N ≡ Position (inverseLatitude p E N) (inverseLongitude p E N)

@@ -1,9 +1,9 @@
 -- Which refusals the calls on doubles give: their chains of tests have no other number, and a list call whose set is accepted asks of its points only the
 -- rest of the chain. An answer is refused where its number is not 0 and carries that number; so it is refused 4 exactly where the last link of the
 -- chain is, and what is told decides the answer. Assumes nothing.
-use mathlib.Core.Path.{_≡_, refl, sym, ap, ap₂, _∙_, subst}
+use mathlib.Core.Path.{_≡_, refl, sym, ap, ap₂, _∙_}
 use mathlib.Core.Bool.{Bool, true, false, cond}
-use mathlib.Core.List.{List, _∷_}
+use mathlib.Core.List.{_∷_}
 use mathlib.Core.Logic.{_⊎_, inl, inr, ⊎-elim, _↔_, Iff·rfl, Iff·trans, Iff·and}
 use Prim.Native.Nat.{ℕ, zero, suc}
 use lib.IntN.{ℤ, pos, _-ℤ_}
@@ -11,6 +11,7 @@ use lib.Signed.{_<ℤ_}
 use lib.Ieee.{Float}
 use Rattle.proof_kit.proofs.Order.{leZ-false, lt-leZ}
 use Rattle.units.specs.Refusals.{too-far, unless}
+use Rattle.units.specs.Answers.{answered}
 use Rattle.parameters.specs.declared.Parameters.{Parameters}
 use Rattle.parameters.specs.ParameterSet.{setRefusal}
 use Rattle.constants.specs.Derived.{constantsOf}
@@ -20,11 +21,12 @@ use Rattle.azimuthal_inverse.specs.Steps.{at-origin, on-map, K, G}
 use Rattle.azimuthal_inverse.specs.Answer.{farFrom, inverseFar}
 use Rattle.projection_laws.specs.Theorems.{OneOf}
 use Rattle.projection_laws.proofs.Chains.{Gives, chain}
+use Rattle.projection_laws.proofs.Refusals.{another}
 use Rattle.points.specs.declared.pairs.GeodeticPair.{GeodeticPair}
 use Rattle.points.specs.declared.pairs.PlanePair.{PlanePair}
 use Rattle.points.specs.declared.pairs.PlanePairAnswer.the-variants.{Metres, Refused as PlaneRefused}
 use Rattle.points.specs.declared.pairs.GeodeticPairAnswer.the-variants.{Degrees, Refused as NotFound}
-use Rattle.points.specs.Pairs.{degrees, metres, latitudeMas, longitudeMas, eastingCm, northingCm, planePairAnswer, geodeticPairAnswer}
+use Rattle.points.specs.Pairs.{degrees, metres, latitudeMas, longitudeMas, eastingCm, northingCm, pairRefusal}
 use Rattle.points.specs.Pairs.{forwardPairRefusal, forwardPair, forwardDegrees, forwardRow, inversePairRefusal, inversePair, inverseMetres, inverseRow}
 use Rattle.points.proofs.AnswerLaws.{forward-tells, inverse-tells}
 use Rattle.point_lists.specs.declared.ListAnswer.the-variants.{Refused}
@@ -38,13 +40,13 @@ use Rattle.points_laws.proofs.Listed.{at-each-index}
 -- ---- the numbers of the chains
 
 pub forward-numbers : ForwardNumbers
-unfolding forwardPairRefusal setRefusal forwardFar
+unfolding forwardPairRefusal pairRefusal setRefusal forwardFar
 forward-numbers p at =
     let number : Gives (0 ∷ pair-refusals) (forwardPairRefusal p at) = search chain depth 40 in
     number .one
 
 pub inverse-numbers : InverseNumbers
-unfolding inversePairRefusal setRefusal inverseFar farFrom
+unfolding inversePairRefusal pairRefusal setRefusal inverseFar farFrom
 inverse-numbers p at =
     let number : Gives (0 ∷ pair-refusals) (inversePairRefusal p at) = search chain depth 40 in
     number .one
@@ -57,11 +59,11 @@ list-numbers p xs ys first second mark =
 
 -- with an accepted set, of the rest of the chain
 forward-point : (p : Parameters) → setRefusal p ≡ 0 → (at : GeodeticPair) → Gives (0 ∷ point-refusals) (forwardPairRefusal p at)
-unfolding forwardPairRefusal forwardFar
+unfolding forwardPairRefusal pairRefusal forwardFar
 forward-point p set at = rw set (search chain depth 40)
 
 inverse-point : (p : Parameters) → setRefusal p ≡ 0 → (at : PlanePair) → Gives (0 ∷ point-refusals) (inversePairRefusal p at)
-unfolding inversePairRefusal inverseFar farFrom
+unfolding inversePairRefusal pairRefusal inverseFar farFrom
 inverse-point p set at = rw set (search chain depth 40)
 
 mark-number : (forward : Bool) (p : Parameters) → setRefusal p ≡ 0 → (x y : Float) → OneOf (0 ∷ point-refusals) (rowOf forward p x y .mark)
@@ -75,22 +77,17 @@ mark-numbers forward = at-each-index (rowOf forward) MarkedAt (mark-number forwa
 -- ---- the answers that are refused
 
 -- an answer that is refused by k has the number k, which is not 0
-plane-number : (n : ℕ) (pair : PlanePair) (k : ℕ) → planePairAnswer n pair ≡ PlaneRefused k → (n ≡ k) × (k ≡ 0 → ⊥)
+plane-number : (n : ℕ) (pair : PlanePair) (k : ℕ) → answered PlaneRefused n (Metres pair) ≡ PlaneRefused k → (n ≡ k) × (k ≡ 0 → ⊥)
 plane-number zero pair k e = let z : _≡_ {A = ℕ} 1 0 = cc in nothing z
 plane-number (suc n) pair k e = let is : suc n ≡ k = cc in (is, λ z. nothing (is ∙ z))
 
-geodetic-number : (n : ℕ) (pair : GeodeticPair) (k : ℕ) → geodeticPairAnswer n pair ≡ NotFound k → (n ≡ k) × (k ≡ 0 → ⊥)
+geodetic-number : (n : ℕ) (pair : GeodeticPair) (k : ℕ) → answered NotFound n (Degrees pair) ≡ NotFound k → (n ≡ k) × (k ≡ 0 → ⊥)
 geodetic-number zero pair k e = let z : _≡_ {A = ℕ} 1 0 = cc in nothing z
 geodetic-number (suc n) pair k e = let is : suc n ≡ k = cc in (is, λ z. nothing (is ∙ z))
 
 list-number : (n count k : ℕ) → listAnswer n count ≡ Refused k → (n ≡ k) × (k ≡ 0 → ⊥)
 list-number zero count k e = let z : _≡_ {A = ℕ} 1 0 = cc in nothing z
 list-number (suc n) count k e = let is : suc n ≡ k = cc in (is, λ z. nothing (is ∙ z))
-
--- a number that is not 0 is one of the others
-another : (numbers : List ℕ) (n k : ℕ) → OneOf (0 ∷ numbers) n → (n ≡ k) × (k ≡ 0 → ⊥) → OneOf numbers k
-another numbers n k (inl e) is = absurd (is .1 (sym (is .0) ∙ e))
-another numbers n k (inr h) is = subst (OneOf numbers) (is .0) h
 
 pub forward-refused : ForwardRefused
 unfolding forwardDegrees
@@ -135,21 +132,21 @@ steps-fail false true true = (λ e. nothing (sym e), λ e. none (e .1))
     none (inr e) = ap (λ (t : Bool). unless t too-far 0) e
 
 -- an answer is refused 4 exactly where its number is 4
-plane-four : (n : ℕ) (pair : PlanePair) → (planePairAnswer n pair ≡ PlaneRefused too-far) ↔ (n ≡ too-far)
-plane-four n pair = (λ e. plane-number n pair too-far e .0, λ e. ap (λ (k : ℕ). planePairAnswer k pair) e)
+plane-four : (n : ℕ) (pair : PlanePair) → (answered PlaneRefused n (Metres pair) ≡ PlaneRefused too-far) ↔ (n ≡ too-far)
+plane-four n pair = (λ e. plane-number n pair too-far e .0, λ e. ap (λ (k : ℕ). answered PlaneRefused k (Metres pair)) e)
 
-geodetic-four : (n : ℕ) (pair : GeodeticPair) → (geodeticPairAnswer n pair ≡ NotFound too-far) ↔ (n ≡ too-far)
-geodetic-four n pair = (λ e. geodetic-number n pair too-far e .0, λ e. ap (λ (k : ℕ). geodeticPairAnswer k pair) e)
+geodetic-four : (n : ℕ) (pair : GeodeticPair) → (answered NotFound n (Degrees pair) ≡ NotFound too-far) ↔ (n ≡ too-far)
+geodetic-four n pair = (λ e. geodetic-number n pair too-far e .0, λ e. ap (λ (k : ℕ). answered NotFound k (Degrees pair)) e)
 
 pub forward-far-exactly : ForwardFarExactly
-unfolding forwardDegrees forwardPairRefusal forwardFar
+unfolding forwardDegrees forwardPairRefusal pairRefusal forwardFar
 forward-far-exactly p at set finite inside =
     let g = nearness p (latitudeMas at) (longitudeMas at) in
     rw (set, finite, inside)
     (Iff·trans (plane-four (unless (near-enough g) too-far 0) (forwardPair p at)) (Iff·trans (link-fails (near-enough g)) (not-near g)))
 
 pub inverse-far-exactly : InverseFarExactly
-unfolding inverseMetres inversePairRefusal inverseFar farFrom
+unfolding inverseMetres inversePairRefusal pairRefusal inverseFar farFrom
 inverse-far-exactly p at set finite inside =
     let k = constantsOf p in
     let dE = eastingCm at -ℤ p .«false_easting» in

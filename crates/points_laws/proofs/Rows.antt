@@ -5,19 +5,20 @@ use Prim.Native.Nat.{ℕ, zero, suc}
 use native.Mathlib.Omega.{arith}
 use lib.Ieee.{Float}
 use Rattle.points.specs.declared.pairs.Row.{Row}
-use Rattle.points.specs.Pairs.{row}
+use Rattle.units.specs.Answers.{answered}
+use Rattle.points.specs.Pairs.{acceptedRow, refusedRow}
 
 pub nothing : {A : Type 0} {n : ℕ} → suc n ≡ 0 → A
 nothing e = let z : ⊥ = omega arith in absurd z
 
-pub row-mark : (n : ℕ) (x y : Float) → row n x y .mark ≡ n
+pub row-mark : (n : ℕ) (x y : Float) → answered refusedRow n (acceptedRow x y) .mark ≡ n
 row-mark zero x y = refl
 row-mark (suc n) x y = refl
 
 -- where a mark of 0 and two floats are told, the number is 0 and the floats are these
 pub row-values :
     (n : ℕ) (x y first second : Float) →
-    row n x y ≡ record { mark = 0; first = first; second = second } →
+    answered refusedRow n (acceptedRow x y) ≡ acceptedRow first second →
     (n ≡ 0) × (x ≡ first) × (y ≡ second)
 row-values zero x y first second e = (refl, ap (λ (r : Row). r .first) e, ap (λ (r : Row). r .second) e)
 row-values (suc n) x y first second e = nothing (ap (λ (r : Row). r .mark) e)

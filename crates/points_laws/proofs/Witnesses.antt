@@ -8,7 +8,7 @@ use lib.Dec.{lit≤}
 use lib.IntN.{pos, negℤ}
 use lib.Ieee.{nan, lt, neg}
 use Rattle.units.specs.Spans.{within, same}
-use Rattle.units.specs.Answers.{Told}
+use Rattle.units.specs.declared.answers.Told.{Told}
 use Rattle.floats.specs.Limits.{isFinite, beyond, withinLimit}
 use Rattle.parameters.specs.ParameterSet.{polar, accepted-a, accepted-e2, accepted-lat0, accepted-lon0, accepted-false, setRefusal, etrsLaea}
 use Rattle.azimuthal_forward.specs.declared.PlaneAnswer.{PlaneAnswer}
@@ -17,7 +17,8 @@ use Rattle.azimuthal_forward.specs.Answer.{forwardOf, plane-told}
 use Rattle.azimuthal_inverse.specs.declared.GeodeticAnswer.{GeodeticAnswer}
 use Rattle.azimuthal_inverse.specs.declared.GeodeticAnswer.the-variants.{Position, Refused as NotFound}
 use Rattle.azimuthal_inverse.specs.Answer.{inverseOf, geodetic-told}
-use Rattle.projection_laws.specs.Theorems.{latitude, sizeless}
+use Rattle.latitudes.specs.Latitude.{latitude}
+use Rattle.projection_laws.specs.Theorems.{sizeless}
 use Rattle.projection_laws.proofs.Witnesses.{forward-witnesses as whole-forward, inverse-witnesses as whole-inverse}
 use Rattle.points.specs.Pairs.{degrees, metres, zeroFloat, areFinite, withinGlobe, withinPlane, plane-row, geodetic-row, inMetres, inDegrees}
 use Rattle.points.proofs.AnswerLaws.{forward-set-refused, forward-not-finite, forward-beyond, inverse-set-refused, inverse-not-finite, inverse-beyond}

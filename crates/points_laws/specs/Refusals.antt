@@ -23,7 +23,7 @@ use Rattle.points.specs.declared.pairs.Row.{Row}
 use Rattle.points.specs.declared.pairs.PlanePairAnswer.the-variants.{Metres, Refused as PlaneRefused}
 use Rattle.points.specs.declared.pairs.GeodeticPairAnswer.the-variants.{Degrees, Refused as NotFound}
 use Rattle.points.specs.Pairs.{degrees, metres, eastingCm, northingCm, latitudeMas, longitudeMas, areFinite, withinGlobe, withinPlane}
-use Rattle.points.specs.Pairs.{plane-row, geodetic-row, forwardPairRefusal, forwardDegrees, inversePairRefusal, inverseMetres}
+use Rattle.points.specs.Pairs.{acceptedRow, plane-row, geodetic-row, forwardPairRefusal, forwardDegrees, inversePairRefusal, inverseMetres}
 use Rattle.point_lists.specs.declared.ListAnswer.{ListAnswer}
 use Rattle.point_lists.specs.declared.ListAnswer.the-variants.{Refused}
 use Rattle.point_lists.specs.Lists.{rowOf, listRefusal, ListCall}
@@ -105,11 +105,11 @@ InverseFarExactly =
 abbrev pub ForwardDecided : Type 0
 ForwardDecided =
     (p : Parameters) (at : GeodeticPair) (first second : Float) →
-    plane-row (forwardDegrees p at) ≡ record { mark = 0; first = first; second = second } →
+    plane-row (forwardDegrees p at) ≡ acceptedRow first second →
     forwardDegrees p at ≡ Metres (metres first second)
 
 abbrev pub InverseDecided : Type 0
 InverseDecided =
     (p : Parameters) (at : PlanePair) (first second : Float) →
-    geodetic-row (inverseMetres p at) ≡ record { mark = 0; first = first; second = second } →
+    geodetic-row (inverseMetres p at) ≡ acceptedRow first second →
     inverseMetres p at ≡ Degrees (degrees first second)

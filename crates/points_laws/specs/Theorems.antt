@@ -10,6 +10,7 @@ use lib.ListN.{length, getD, replicate}
 use Rattle.units.specs.Units.{right-angle, half-turn, plane-limit}
 use Rattle.units.specs.Refusals.{bad-set, not-finite, out-of-limits, too-far, unequal-lists, long-lists}
 use Rattle.floats.specs.Limits.{isFinite}
+use Rattle.latitudes.specs.Latitude.{latitude}
 use Rattle.parameters.specs.declared.Parameters.{Parameters}
 use Rattle.azimuthal_forward.specs.declared.PlaneAnswer.the-variants.{Plane}
 use Rattle.azimuthal_inverse.specs.declared.GeodeticAnswer.the-variants.{Position}
@@ -79,7 +80,7 @@ ForwardWhole =
     (φ lon : ℤ) →
     natAbs φ ≤ right-angle →
     natAbs lon ≤ half-turn →
-    forwardDegrees p (geodeticPair φ lon) ≡ inMetres (forwardOf p (record { 0 = φ }) lon)
+    forwardDegrees p (geodeticPair φ lon) ≡ inMetres (forwardOf p (latitude φ) lon)
 
 abbrev pub InverseWhole : Type 0
 InverseWhole =

@@ -9,7 +9,9 @@ use native.Mathlib.Omega.{arith}
 use lib.ListN.{length, take, drop}
 use lib.Seq.{take-length, drop-nil, drop-drop}
 use Rattle.bytes.specs.Bytes.{indexOf, slice}
-use Rattle.printing.specs.Texts.{newline, firstLine, afterFirst, fromLine, lineOf}
+use Rattle.text.specs.Ascii.{newline}
+use Rattle.text.specs.Cutting.{after}
+use Rattle.printing.specs.Texts.{fromLine, lineOf}
 
 -- what `find` searches, where it searches to the text's end
 pub slice-rest : (start : ℕ) (text : List ℕ) → slice start (length text) text ≡ drop start text
@@ -23,7 +25,7 @@ drop-past zero (b ∷ bs) h = let e : ⊥ = omega arith in absurd e
 drop-past (suc n) (b ∷ bs) h = drop-past n bs (le-of-suc-le-suc h)
 
 from-nothing : (k : ℕ) → fromLine k [] ≡ []
-unfolding fromLine afterFirst
+unfolding fromLine
 from-nothing zero = refl
 from-nothing (suc k) = ap (fromLine k) (drop-nil (suc (indexOf newline []))) ∙ from-nothing k
 
@@ -36,9 +38,8 @@ at-line (suc left) text h = let e : ⊥ = omega arith in absurd e
 -- ---- from the line that starts at `start` and ends at `end`
 
 module _ (text : List ℕ) (start end : ℕ) (ends : end ≡ start + indexOf newline (drop start text)) where
-  after : drop (end + 1) text ≡ afterFirst (drop start text)
-  unfolding afterFirst
-  after =
+  rest-is : drop (end + 1) text ≡ after newline (drop start text)
+  rest-is =
       let place : end + 1 ≡ start + suc (indexOf newline (drop start text)) = omega arith in
       ap (λ (n : ℕ). drop n text) place ∙ sym (drop-drop (suc (indexOf newline (drop start text))) start text)
 
@@ -48,14 +49,14 @@ module _ (text : List ℕ) (start end : ℕ) (ends : end ≡ start + indexOf new
   next-line zero h = let e : ⊥ = omega arith in absurd e
   next-line (suc left) h =
       let one-less : suc left - 1 ≡ left = omega arith in
-      rw (one-less, after)
+      rw (one-less, rest-is)
 
   -- no line
   pub no-line : (left : ℕ) → 0 < left → end ≡ length text → drop end text ≡ fromLine left (drop start text)
   unfolding fromLine
   no-line zero h e = let f : ⊥ = omega arith in absurd f
   no-line (suc left) h e =
-      let nothing : afterFirst (drop start text) ≡ [] = sym after ∙ drop-past (end + 1) text (omega arith) in
+      let nothing : after newline (drop start text) ≡ [] = sym rest-is ∙ drop-past (end + 1) text (omega arith) in
       drop-past end text (omega arith) ∙ sym (ap (fromLine left) nothing ∙ from-nothing left)
 
 -- ---- the part from the start of line k to its end
@@ -65,7 +66,7 @@ pub line-part :
     drop start text ≡ fromLine k text →
     end ≡ start + indexOf newline (drop start text) →
     take (end - start) (drop start text) ≡ lineOf k text
-unfolding lineOf firstLine
+unfolding lineOf
 line-part text k start end starts ends =
     let size : end - start ≡ indexOf newline (drop start text) = omega arith in
     rw (size, starts)
@@ -76,5 +77,5 @@ example : List ℕ
 example = 97 ∷ newline ∷ 98 ∷ 99 ∷ []
 
 example-lines : (lineOf 0 example ≡ 97 ∷ []) × (lineOf 1 example ≡ 98 ∷ 99 ∷ []) × (lineOf 2 example ≡ [])
-unfolding example lineOf firstLine afterFirst fromLine indexOf
+unfolding example lineOf fromLine indexOf
 example-lines = (refl, refl, refl)

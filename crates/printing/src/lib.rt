@@ -8,7 +8,8 @@ ghost use mathlib.Core.Path.{_≡_};
 ghost use Prim.Native.Nat.{_+_, _≤_};
 ghost use lib.ListN.{length, drop};
 ghost use Rattle.bytes.specs.Bytes.{indexOf};
-ghost use Rattle.printing.specs.Texts.{newline, fromLine, lineOf};
+ghost use Rattle.text.specs.Ascii.{newline};
+ghost use Rattle.printing.specs.Texts.{fromLine, lineOf};
 
 fn text(bytes: &[u8]) {
     io::write_all(STDOUT_FILENO, bytes);

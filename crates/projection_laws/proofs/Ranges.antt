@@ -24,7 +24,8 @@ use Rattle.azimuthal_inverse.specs.declared.GeodeticAnswer.{GeodeticAnswer}
 use Rattle.azimuthal_inverse.specs.declared.GeodeticAnswer.the-variants.{Position}
 use Rattle.units.specs.Spans.{within, on-plane, wrapped}
 use Rattle.units.specs.Refusals.{unless}
-use Rattle.units.specs.Answers.{Told, accepted, told}
+use Rattle.units.specs.declared.answers.Told.{Told}
+use Rattle.units.specs.Answers.{accepted, refused, answered}
 use Rattle.parameters.specs.ParameterSet.{setRefusal}
 use Rattle.latitudes.specs.Latitude.{not-above, geodetic}
 use Rattle.constants.specs.Derived.{constantsOf}
@@ -72,7 +73,7 @@ module _ (p : Parameters) (ok : Accepted p) (k : Constants) (dE dN : ℤ) where
 abbrev InRange : Told → Type 0
 InRange t = (natAbs (t .first) ≤ right-angle) × (negℤ (pos half-turn) <ℤ t .second) × (t .second ≤ℤ pos half-turn)
 
-told-range : (n : ℕ) (lat lon : ℤ) → (n ≡ 0 → InRange (accepted lat lon)) → InRange (told n lat lon)
+told-range : (n : ℕ) (lat lon : ℤ) → (n ≡ 0 → InRange (accepted lat lon)) → InRange (answered refused n (accepted lat lon))
 told-range zero lat lon h = h refl
 told-range (suc n) lat lon h = (lit≤ tt, omega order, omega order)
 

@@ -7,17 +7,19 @@ use mathlib.Core.Logic.{inl, inr}
 use Prim.Native.Nat.{ℕ, zero, suc}
 use native.Mathlib.Omega.{arith}
 use lib.IntN.{ℤ}
-use Rattle.units.specs.Answers.{Told, accepted, told}
+use Rattle.units.specs.declared.answers.Told.{Told}
+use Rattle.units.specs.Answers.{accepted, refused, answered}
 use Rattle.latitudes.specs.declared.Geodetic.{Geodetic}
 use Rattle.parameters.specs.ParameterSet.{setRefusal}
-use Rattle.azimuthal_forward.specs.declared.PlaneAnswer.the-variants.{Refused}
-use Rattle.azimuthal_forward.specs.Answer.{forwardFar, forwardRefusal, eastingOf, northingOf, planeAnswer, forwardOf, forwardTold}
+use Rattle.azimuthal_forward.specs.declared.PlaneAnswer.the-variants.{Plane, Refused}
+use Rattle.azimuthal_forward.specs.Answer.{forwardFar, forwardRefusal, eastingOf, northingOf, forwardOf, forwardTold}
 use Rattle.azimuthal_forward.proofs.AnswerLaws.{forward-tells}
 use Rattle.azimuthal_inverse.specs.declared.GeodeticAnswer.the-variants.{Position, Refused as NotFound}
 use Rattle.azimuthal_inverse.specs.Answer.{farFrom, inverseFar, inverseRefusal, inverseLatitude, inverseLongitude}
-use Rattle.azimuthal_inverse.specs.Answer.{geodeticAnswer, inverseOf, inverseTold}
+use Rattle.azimuthal_inverse.specs.Answer.{inverseOf, inverseTold}
 use Rattle.azimuthal_inverse.proofs.AnswerLaws.{inverse-tells}
-use Rattle.projection_laws.specs.Theorems.{latitude, OneOf, whole-refusals, ForwardNumbers, InverseNumbers, ForwardRefused, InverseRefused}
+use Rattle.latitudes.specs.Latitude.{latitude}
+use Rattle.projection_laws.specs.Theorems.{OneOf, whole-refusals, ForwardNumbers, InverseNumbers, ForwardRefused, InverseRefused}
 use Rattle.projection_laws.specs.Theorems.{ForwardDecided, InverseDecided}
 use Rattle.projection_laws.proofs.Chains.{Gives, chain}
 
@@ -41,20 +43,20 @@ nothing : {n : ℕ} → suc n ≡ 0 → ⊥
 nothing e = omega arith
 
 -- an answer that is refused by k has the number k, which is not 0
-plane-number : (n : ℕ) (E N : ℤ) (k : ℕ) → planeAnswer n E N ≡ Refused k → (n ≡ k) × (k ≡ 0 → ⊥)
+plane-number : (n : ℕ) (E N : ℤ) (k : ℕ) → answered Refused n (Plane E N) ≡ Refused k → (n ≡ k) × (k ≡ 0 → ⊥)
 plane-number zero E N k e = let z : _≡_ {A = ℕ} 1 0 = cc in absurd (nothing z)
 plane-number (suc n) E N k e =
     let is : suc n ≡ k = cc in
     (is, λ z. nothing (is ∙ z))
 
-geodetic-number : (n : ℕ) (φ : Geodetic) (lon : ℤ) (k : ℕ) → geodeticAnswer n φ lon ≡ NotFound k → (n ≡ k) × (k ≡ 0 → ⊥)
+geodetic-number : (n : ℕ) (φ : Geodetic) (lon : ℤ) (k : ℕ) → answered NotFound n (Position φ lon) ≡ NotFound k → (n ≡ k) × (k ≡ 0 → ⊥)
 geodetic-number zero φ lon k e = let z : _≡_ {A = ℕ} 1 0 = cc in absurd (nothing z)
 geodetic-number (suc n) φ lon k e =
     let is : suc n ≡ k = cc in
     (is, λ z. nothing (is ∙ z))
 
 -- a number that is not 0 is one of the others
-another : (numbers : List ℕ) (n k : ℕ) → OneOf (0 ∷ numbers) n → (n ≡ k) × (k ≡ 0 → ⊥) → OneOf numbers k
+pub another : (numbers : List ℕ) (n k : ℕ) → OneOf (0 ∷ numbers) n → (n ≡ k) × (k ≡ 0 → ⊥) → OneOf numbers k
 another numbers n k (inl e) is = absurd (is .1 (sym (is .0) ∙ e))
 another numbers n k (inr h) is = subst (OneOf numbers) (is .0) h
 
@@ -73,7 +75,7 @@ inverse-refused p E N n e =
 -- ---- what is told decides the answer
 
 -- where two values are told, the number is 0 and the values are these
-told-values : (n : ℕ) (a b a′ b′ : ℤ) → told n a b ≡ accepted a′ b′ → (n ≡ 0) × (a ≡ a′) × (b ≡ b′)
+told-values : (n : ℕ) (a b a′ b′ : ℤ) → answered refused n (accepted a b) ≡ accepted a′ b′ → (n ≡ 0) × (a ≡ a′) × (b ≡ b′)
 told-values zero a b a′ b′ e = (refl, ap (λ (t : Told). t .first) e, ap (λ (t : Told). t .second) e)
 told-values (suc n) a b a′ b′ e = absurd (nothing (ap (λ (t : Told). t .refusal) e))
 

@@ -19,7 +19,8 @@ use Rattle.constants.proofs.ConstantsLaws.{sound}
 use Rattle.azimuthal_forward.proofs.AnswerLaws.{forward-set-refused, forward-off-globe}
 use Rattle.azimuthal_inverse.proofs.AnswerLaws.{from-off-map, inverse-set-refused, inverse-off-plane, inverse-on-plane}
 use Rattle.azimuthal_inverse.specs.Answer.{geodetic-told}
-use Rattle.projection_laws.specs.Theorems.{latitude, sizeless, ForwardWitnesses, InverseWitnesses}
+use Rattle.latitudes.specs.Latitude.{latitude}
+use Rattle.projection_laws.specs.Theorems.{sizeless, ForwardWitnesses, InverseWitnesses}
 use Rattle.projection_laws.proofs.Centre.{centre-forward, centre-inverse, opposite-forward}
 use Rattle.projection_laws.proofs.Tests.{first-fails, second-fails, on-plane-by}
 

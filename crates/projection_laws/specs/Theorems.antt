@@ -11,9 +11,9 @@ use Rattle.units.specs.Units.{right-angle, half-turn}
 use Rattle.units.specs.Refusals.{bad-set, out-of-limits, too-far}
 use Rattle.units.specs.Answers.{accepted, refused}
 use Rattle.latitudes.specs.declared.Geodetic.{Geodetic}
-use Rattle.latitudes.specs.Latitude.{beta}
+use Rattle.latitudes.specs.Latitude.{latitude, beta}
 use Rattle.parameters.specs.declared.Parameters.{Parameters}
-use Rattle.parameters.specs.ParameterSet.{polar, accepted-e2, setRefusal, etrsLaea}
+use Rattle.parameters.specs.ParameterSet.{polar, accepted-e2, setRefusal, setOf, etrsLaea}
 use Rattle.constants.specs.Derived.{seriesOf, RD, constantsOf}
 use Rattle.azimuthal_forward.specs.declared.PlaneAnswer.the-variants.{Plane, Refused}
 use Rattle.azimuthal_forward.specs.Answer.{forwardRefusal, forwardOf, plane-told}
@@ -21,10 +21,7 @@ use Rattle.azimuthal_inverse.specs.declared.GeodeticAnswer.the-variants.{Positi
 use Rattle.azimuthal_inverse.specs.Steps.{on-map}
 use Rattle.azimuthal_inverse.specs.Answer.{inverseRefusal, inverseOf, geodetic-told}
 
--- a latitude in mas, and the same on the other side of the Equator
-abbrev pub latitude : ℤ → Geodetic
-latitude φ = record { 0 = φ }
-
+-- a latitude as far on the other side of the Equator
 abbrev pub opposite : Geodetic → Geodetic
 opposite φ = latitude (negℤ (φ .0))
 
@@ -149,15 +146,7 @@ InverseDecided =
 
 -- ETRS-LAEA on an ellipsoid without size: refused
 abbrev pub sizeless : Parameters
-sizeless =
-    record {
-      a = pos 0;
-      e2 = etrsLaea .e2;
-      lat0 = etrsLaea .lat0;
-      lon0 = etrsLaea .lon0;
-      «false_easting» = etrsLaea .«false_easting»;
-      «false_northing» = etrsLaea .«false_northing»;
-    }
+sizeless = setOf (pos 0) (pos 6_694_380) (pos 187_200_000) (pos 36_000_000) (pos 432_100_000) (pos 321_000_000)
 
 -- The accepted answers, and forward's 3 and 4, are those of the program's example in document 01.
 abbrev pub ForwardWitnesses : Type 0

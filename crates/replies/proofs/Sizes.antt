@@ -9,7 +9,8 @@ use lib.ListN.{length, length-append}
 use Rattle.text.proofs.Digits.{text-size}
 use Rattle.replies.specs.declared.Reply.{Reply}
 use Rattle.replies.specs.declared.Reply.the-variants.{Plane, Position, Refused, Bad}
-use Rattle.replies.specs.Replies.{pairText, easting-label, northing-label, latitude-label, longitude-label, replyText}
+use Rattle.text.specs.Ascii.{ascii}
+use Rattle.replies.specs.Replies.{pairText, replyText}
 
 -- both numbers have at most 11 digits
 abbrev pub SmallPair : ℤ → ℤ → Type 0
@@ -30,7 +31,7 @@ pair-size first x second y labels small =
     simp length-append (omega (arith, text-size 10 x (small .0), text-size 10 y (small .1)))
 
 pub reply-size : (r : Reply) → Small r → length (replyText r) ≤ 29
-reply-size (Plane E N) small = pair-size easting-label E northing-label N (lit≤ tt) small
-reply-size (Position φ lon) small = pair-size latitude-label φ longitude-label lon (lit≤ tt) small
+reply-size (Plane E N) small = pair-size (ascii "E ") E (ascii " N ") N (lit≤ tt) small
+reply-size (Position φ lon) small = pair-size (ascii "P ") φ (ascii " ") lon (lit≤ tt) small
 reply-size (Refused number) small = omega (arith, text-size 0 (pos number) small)
 reply-size Bad small = lit≤ tt

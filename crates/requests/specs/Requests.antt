@@ -1,5 +1,6 @@
 -- Document 01, "The program": what a line asks for. Bytes are ASCII.
 use Prim.Native.Nat.{ℕ, suc}
+use Prim.Native.Char.{code}
 use mathlib.Core.Bool.{cond}
 use mathlib.Core.List.{List, [], _∷_}
 use lib.Dec.{eqb}
@@ -12,13 +13,13 @@ use Rattle.requests.specs.declared.Request.{Request}
 use Rattle.requests.specs.declared.Request.the-variants.{Forward, Inverse, Bad}
 
 abbrev pub space : ℕ
-space = 32
+space = code " "
 
 abbrev pub byte-F : ℕ
-byte-F = 70
+byte-F = code "F"
 
 abbrev pub byte-I : ℕ
-byte-I = 73
+byte-I = code "I"
 
 -- what the two numbers of a line ask for; where one is none, the line is "of another form"
 abbrev pub ofNumbers : (ℤ → ℤ → Request) → Numeral → Numeral → Request

@@ -6,13 +6,14 @@ use Prim.Native.Nat.{ℕ, zero, suc}
 use native.Mathlib.Omega.{arith}
 use lib.IntN.{ℤ}
 use Rattle.units.specs.Refusals.{unless, firstOf}
+use Rattle.units.specs.Answers.{answered}
 use Rattle.units.proofs.Chains.{link-passed}
 use Rattle.latitudes.specs.declared.Geodetic.{Geodetic}
 use Rattle.parameters.specs.declared.Parameters.{Parameters}
 use Rattle.parameters.specs.ParameterSet.{setRefusal}
-use Rattle.azimuthal_forward.specs.declared.PlaneAnswer.the-variants.{Plane}
+use Rattle.azimuthal_forward.specs.declared.PlaneAnswer.the-variants.{Plane, Refused}
 use Rattle.azimuthal_forward.specs.Steps.{near-enough}
-use Rattle.azimuthal_forward.specs.Answer.{on-globe, nearness, forwardFar, forwardRefusal, eastingOf, northingOf, planeAnswer, forwardOf}
+use Rattle.azimuthal_forward.specs.Answer.{on-globe, nearness, forwardFar, forwardRefusal, eastingOf, northingOf, forwardOf}
 
 -- two chains, one after the other, give 0 where both do
 pub both-passed : (m n : ℕ) → firstOf m n ≡ 0 → (m ≡ 0) × (n ≡ 0)
@@ -20,7 +21,7 @@ both-passed zero n h = (refl, h)
 both-passed (suc m) n h = let z : ⊥ = omega arith in absurd z
 
 -- an answer with two values has the number 0, and they are its values
-pub plane-parts : (n : ℕ) (E N E′ N′ : ℤ) → planeAnswer n E N ≡ Plane E′ N′ → (n ≡ 0) × (E ≡ E′) × (N ≡ N′)
+pub plane-parts : (n : ℕ) (E N E′ N′ : ℤ) → answered Refused n (Plane E N) ≡ Plane E′ N′ → (n ≡ 0) × (E ≡ E′) × (N ≡ N′)
 plane-parts zero E N E′ N′ e = (refl, (cc), (cc))
 plane-parts (suc n) E N E′ N′ e =
     let z : _≡_ {A = ℕ} 0 1 = cc in

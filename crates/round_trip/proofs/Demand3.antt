@@ -2,7 +2,7 @@
 -- The forward answer gives the shifts, the vectors' half of the proof shows that the inverse accepts them, and the angles' half bounds its answer.
 -- Assumes nothing.
 use mathlib.Core.Path.{_≡_, refl, sym, ap, ap₂, _∙_, subst}
-use mathlib.Core.Bool.{true, _&&_}
+use mathlib.Core.Bool.{true}
 use mathlib.Core.List.{[], _∷_}
 use Prim.Native.Nat.{ℕ, suc, _*_, _<_, _≤_}
 use native.Mathlib.Nat.{le-trans, le-of-mul-le-mul-left, mul-le-mul-left}

@@ -3,7 +3,7 @@
 -- 2 H is the truth. A shift is then at most three radii, and with the false origin well within the limits.
 -- Assumes nothing.
 use mathlib.Core.Path.{_≡_, sym, ap₂, subst}
-use mathlib.Core.Bool.{true, _&&_}
+use mathlib.Core.Bool.{true}
 use mathlib.Core.List.{[], _∷_}
 use Prim.Native.Nat.{ℕ, _+_, _*_, _<_, _≤_}
 use native.Mathlib.Nat.{le-refl, le-trans, mul-le-mul}

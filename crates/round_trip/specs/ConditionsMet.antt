@@ -3,21 +3,18 @@
 use lib.IntN.{ℤ, pos, negℤ, _*ℤ_}
 use Rattle.units.specs.Units.{degree}
 use Rattle.latitudes.specs.declared.Geodetic.{Geodetic}
+use Rattle.latitudes.specs.Latitude.{latitude}
 use Rattle.parameters.specs.declared.Parameters.{Parameters}
-use Rattle.parameters.specs.ParameterSet.{etrsLaea}
+use Rattle.parameters.specs.ParameterSet.{setOf, etrsLaea}
 use Rattle.round_trip.specs.RoundTrip.{Conditions}
 
--- of so many degrees
-abbrev pub latitude : ℤ → Geodetic
-latitude n = record { 0 = n *ℤ pos degree }
+-- so many degrees, in mas
+abbrev pub mas : ℤ → ℤ
+mas n = n *ℤ pos degree
 
-abbrev pub longitude : ℤ → ℤ
-longitude n = n *ℤ pos degree
-
--- by the ellipsoid and the centre in degrees, without a false origin
+-- a set with its centre in degrees, without a false origin
 abbrev pub centred : ℤ → ℤ → ℤ → ℤ → Parameters
-centred a e2 φ0 lon0 =
-    record { a = a; e2 = e2; lat0 = latitude φ0; lon0 = longitude lon0; «false_easting» = pos 0; «false_northing» = pos 0 }
+centred a e2 φ0 lon0 = setOf a e2 (mas φ0) (mas lon0) (pos 0) (pos 0)
 
 -- the ellipsoid of ETRS-LAEA with other centres: 20° E on the Equator, and the poles
 abbrev pub equatorial : Parameters
@@ -36,11 +33,11 @@ oblique-sphere = centred (pos 600_000_000) (pos 0) (pos 40) (negℤ (pos 100))
 -- A statement about a set and a position, at each of the examples; the first is that of document 001.
 abbrev pub AtEach : (Parameters → Geodetic → ℤ → Type 0) → Type 0
 AtEach Holds =
-    Holds etrsLaea (latitude (pos 50)) (longitude (pos 5))
-    × Holds equatorial (latitude (negℤ (pos 15))) (longitude (pos 30))
-    × Holds north-polar (latitude (pos 75)) (longitude (pos 100))
-    × Holds south-polar (latitude (negℤ (pos 60))) (longitude (negℤ (pos 60)))
-    × Holds oblique-sphere (latitude (pos 30)) (longitude (negℤ (pos 90)))
+    Holds etrsLaea (latitude (mas (pos 50))) (mas (pos 5))
+    × Holds equatorial (latitude (mas (negℤ (pos 15)))) (mas (pos 30))
+    × Holds north-polar (latitude (mas (pos 75))) (mas (pos 100))
+    × Holds south-polar (latitude (mas (negℤ (pos 60)))) (mas (negℤ (pos 60)))
+    × Holds oblique-sphere (latitude (mas (pos 30))) (mas (negℤ (pos 90)))
 
 abbrev pub ConditionsMet : Type 0
 ConditionsMet = AtEach Conditions

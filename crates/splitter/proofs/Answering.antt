@@ -12,7 +12,8 @@ use Rattle.text.specs.Pasting.{Put}
 use Rattle.text.specs.Cutting.{upTo, after}
 use Rattle.text.proofs.Pasting.{put-as, put-both, put-none, put-length}
 use Rattle.text.proofs.Cutting.{index-within, found}
-use Rattle.lines.specs.Lines.{newline, answerLine, answer-most}
+use Rattle.text.specs.Ascii.{newline}
+use Rattle.lines.specs.Lines.{answerLine, answer-most}
 use Rattle.lines.proofs.Sizes.{answer-size}
 use Rattle.splitter.specs.Splitting.{endedLines, partLeft, lastLine, answersOf}
 use Rattle.splitter.proofs.Newlines.{by-newline, ended-along, left-along, past-newline, to-end}

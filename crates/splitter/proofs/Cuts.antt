@@ -9,7 +9,8 @@ use lib.Seq.{take-take}
 use Rattle.bytes.specs.Bytes.{indexOf}
 use Rattle.text.specs.Cutting.{upTo}
 use Rattle.requests.specs.Requests.{most-kept}
-use Rattle.lines.specs.Lines.{newline, answerLine}
+use Rattle.text.specs.Ascii.{newline}
+use Rattle.lines.specs.Lines.{answerLine}
 use Rattle.splitter.specs.Splitting.{endedLines, partLeft, lastLine, linesOf, answersOf, outputFrom, linesFrom, joined, kept}
 use Rattle.splitter.specs.Theorems.{LinesAlike, PiecesAlike, EmptyInput, EmptyLine, NothingAfter, LastLine, OnlyLine}
 use Rattle.splitter.proofs.Newlines.{by-newline, ended-along, left-along, to-end}

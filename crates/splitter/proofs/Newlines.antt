@@ -9,7 +9,7 @@ use lib.Dec.{eqb}
 use lib.ListN.{length, take, drop}
 use Rattle.bytes.specs.Bytes.{indexAfter, indexOf}
 use Rattle.text.specs.Cutting.{upTo, after}
-use Rattle.lines.specs.Lines.{newline}
+use Rattle.text.specs.Ascii.{newline}
 use Rattle.splitter.specs.Splitting.{endedLines, partLeft}
 
 -- f goes along the input: a newline makes `step` of the part that has come and of what follows; another byte joins the part

@@ -6,7 +6,8 @@ use mathlib.Core.List.{List, [], _∷_, _++_}
 use lib.Dec.{eqb}
 use lib.ListN.{length, take, replicate}
 use Rattle.requests.specs.Requests.{most-kept}
-use Rattle.lines.specs.Lines.{newline, answerLine}
+use Rattle.text.specs.Ascii.{newline}
+use Rattle.lines.specs.Lines.{answerLine}
 use Rattle.splitter.specs.declared.Carried.{Carried}
 
 -- Where `part` of a line has come already: the lines that a piece of input ends, and the part of a line that is left after it.

@@ -3,7 +3,7 @@ use Prim.Native.Nat.{ℕ}
 use mathlib.Core.Path.{_≡_}
 use mathlib.Core.List.{List, [], _∷_, _++_}
 use Rattle.text.specs.Cutting.{upTo}
-use Rattle.lines.specs.Lines.{newline}
+use Rattle.text.specs.Ascii.{newline}
 use Rattle.splitter.specs.Splitting.{endedLines, linesOf, outputOf, outputFrom, linesFrom, joined, kept, carriedOf, partOf}
 
 -- However the input is cut into pieces, its lines are those of the whole input,

@@ -1,5 +1,6 @@
 -- Whole numbers as text, in ASCII bytes. What is read is a number of document 01, "The program".
 use Prim.Native.Nat.{ℕ, zero, suc, _+_, _*_, _-_, _/_, _%_}
+use Prim.Native.Char.{code}
 use mathlib.Core.Bool.{Bool, true, false, _&&_, cond}
 use mathlib.Core.List.{List, [], _∷_, _++_}
 use lib.Dec.{eqb, leb, ltb}
@@ -10,15 +11,14 @@ use Rattle.integers.specs.Near.{signed}
 use Rattle.text.specs.declared.Numeral.{Numeral}
 use Rattle.text.specs.declared.Numeral.the-variants.{Number, Other}
 
--- `-`, and the digits from `0` to `9`
 abbrev pub minus : ℕ
-minus = 45
+minus = code "-"
 
 abbrev pub byte-0 : ℕ
-byte-0 = 48
+byte-0 = code "0"
 
 abbrev pub byte-9 : ℕ
-byte-9 = 57
+byte-9 = code "9"
 
 abbrev pub isDigit : ℕ → Bool
 isDigit b = leb byte-0 b && leb b byte-9

@@ -1,2 +1,3 @@
 pub mod Spans
 pub mod Chains
+pub mod AnswerLaws

@@ -1,20 +1,16 @@
 -- Document 01: "Where an answer is an enum, a definition gives this paper's number and values for each of its cases, and the promises use that definition."
 use Prim.Native.Nat.{ℕ, zero, suc}
 use lib.IntN.{ℤ, pos}
+use Rattle.units.specs.declared.answers.Told.{Told}
 
--- What an answer in whole numbers tells: its refusal number, 0 where it is accepted; then its two values, 0 and 0 where it is refused.
-pub record Told : Type 0 where
-  pub refusal : ℕ
-  pub first : ℤ
-  pub second : ℤ
-
+-- what an accepted answer tells, and what a refused one
 abbrev pub accepted : ℤ → ℤ → Told
 accepted first second = record { refusal = 0; first = first; second = second }
 
 abbrev pub refused : ℕ → Told
 refused number = record { refusal = number; first = pos 0; second = pos 0 }
 
--- by the refusal number and the values
-abbrev pub told : ℕ → ℤ → ℤ → Told
-told zero first second = accepted first second
-told (suc n) first second = refused (suc n)
+-- an answer of any kind by its refusal number: what is given where that is 0, else the refusal alone
+abbrev pub answered : {A : Type 0} → (ℕ → A) → ℕ → A → A
+answered refuse zero given = given
+answered refuse (suc n) given = refuse (suc n)

@@ -1,5 +1,6 @@
 // What every layer shares: the units that angles, lengths and ratios are counted in, the refusal numbers,
 // and the tests of whether a number is within its limits.
+pub mod answers;
 pub mod refusals;
 
 ghost use mathlib.Core.Path.{_≡_};

@@ -7,7 +7,7 @@ use lib.IntN.{ℤ}
 use mir.Syntax.{w64}
 use mir.Val.{SFits}
 use mir.Facts.{toZ-ofZ}
-use Rattle.units.specs.Answers.{Told, accepted}
+use Rattle.units.specs.declared.answers.Told.{Told}
 use Rattle.judging.specs.declared.gaps.Gaps.{Gaps}
 use Rattle.judging.specs.Gaps.{gapsOf, onGround, isRight}
 use Rattle.azimuthal_forward.specs.Answer.{forwardTold}
@@ -16,9 +16,6 @@ use Rattle.cells.specs.Cells.{cellTold}
 use Rattle.billionths.proofs.Calls.{back}
 use Rattle.vectors.specs.declared.rows.Question.{Question}
 use Rattle.vectors.specs.Rows.{toldBy, isNear, isNearOnGround}
-
-pub passed-on : (x y : ℤ) → SFits w64 x → SFits w64 y → accepted (back x) (back y) ≡ accepted x y
-passed-on x y f g = ap₂ accepted (toZ-ofZ f) (toZ-ofZ g)
 
 module _ {b : Bool} (found told right : Told) (off : Gaps) (most : ℕ) (judged : b ≡ isRight found right off most) (tells : found ≡ told) where
   pub near : off ≡ gapsOf found right → b ≡ isNear most told right

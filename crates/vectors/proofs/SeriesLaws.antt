@@ -5,7 +5,7 @@ use mathlib.Core.Bool.{true}
 use lib.IntN.{ℤ, pos}
 use Rattle.units.specs.Spans.{within, same}
 use Rattle.parameters.specs.ParameterSet.{accepted-a, accepted-e2, accepted-lat0, polar, accepted-lon0, accepted-false, setRefusal}
-use Rattle.vectors.specs.Rows.{setOf}
+use Rattle.parameters.specs.ParameterSet.{setOf}
 
 pub e2-decides : (e2 : ℤ) → accepted-e2 e2 ≡ true → setRefusal (setOf (pos 637_813_700) e2 (pos 0) (pos 0) (pos 0) (pos 0)) ≡ 0
 unfolding setRefusal accepted-a accepted-lat0 polar accepted-lon0 accepted-false within same

@@ -2,18 +2,14 @@
 use Prim.Native.Nat.{ℕ}
 use mathlib.Core.Bool.{Bool, true, false, cond}
 use lib.IntN.{ℤ}
-use Rattle.units.specs.Answers.{Told}
+use Rattle.units.specs.declared.answers.Told.{Told}
+use Rattle.latitudes.specs.Latitude.{latitude}
 use Rattle.parameters.specs.declared.Parameters.{Parameters}
 use Rattle.azimuthal_forward.specs.Answer.{forwardTold}
 use Rattle.azimuthal_inverse.specs.Answer.{inverseTold}
 use Rattle.judging.specs.Gaps.{gapsOf, onGround, isRight}
 use Rattle.vectors.specs.declared.rows.Question.{Question}
 use Rattle.vectors.specs.declared.cell_rows.Question.{Question as CellQuestion}
-
--- a set by its numbers, in the order of document 01's table
-abbrev pub setOf : ℤ → ℤ → ℤ → ℤ → ℤ → ℤ → Parameters
-setOf a e2 φ0 lon0 FE FN =
-    record { a = a; e2 = e2; lat0 = record { 0 = φ0 }; lon0 = lon0; «false_easting» = FE; «false_northing» = FN }
 
 -- a latitude and a longitude forward, an easting and a northing inverse
 abbrev pub forwardAsked : Parameters → ℤ → ℤ → Question
@@ -24,7 +20,7 @@ inverseAsked p E N = record { forward = false; set = p; first = E; second = N }
 
 -- what the call tells that is asked for
 abbrev pub toldBy : Question → Told
-toldBy q = cond (q .forward) (forwardTold (q .set) (record { 0 = q .first }) (q .second)) (inverseTold (q .set) (q .first) (q .second))
+toldBy q = cond (q .forward) (forwardTold (q .set) (latitude (q .first)) (q .second)) (inverseTold (q .set) (q .first) (q .second))
 
 -- an answer of which neither value is off by more than `most`, in its own unit
 abbrev pub isNear : ℕ → Told → Told → Bool

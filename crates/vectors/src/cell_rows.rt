@@ -1,11 +1,8 @@
 // Cells of every side, on both sides of 0 and of the limit.
-use cells::CellAnswer;
 use cells::cell;
-use judging::gaps::Answer;
-use judging::gaps::accepted;
+use cells::cell_told;
 use judging::gaps::gaps_of;
 use judging::gaps::is_right;
-use judging::gaps::refused;
 use printing::number;
 use printing::refusal;
 use printing::verdict;
@@ -13,9 +10,11 @@ use printing::words;
 use printing::words::word;
 use units::PLANE_LEAST;
 use units::PLANE_MOST;
+use units::answers::Told;
+use units::answers::accepted;
+use units::answers::refused;
 use units::refusals::OUT_OF_LIMITS;
 ghost use mathlib.Core.Path.{_≡_};
-ghost use Rattle.judging.specs.Gaps.{toldOf};
 ghost use Rattle.cells.specs.Cells.{cellTold};
 ghost use Rattle.vectors.specs.Rows.{cellAt, isNear};
 
@@ -43,14 +42,10 @@ fn at(side: i64, easting: i64, northing: i64) -> Question
     }
 }
 
-fn answer(q: Question) -> Answer
-    ensures { λ r. ⌜ toldOf r ≡ cellTold (q .side) (q .easting) (q .northing) ⌝ }
+fn answer(q: Question) -> Told
+    ensures { λ r. ⌜ r ≡ cellTold (q .side) (q .easting) (q .northing) ⌝ }
 {
-    let found = cell(q.side, q.easting, q.northing);
-    match found {
-        CellAnswer::Cell { east, north } => accepted(east, north),
-        CellAnswer::Refused(number) => refused(number),
-    }
+    cell_told(cell(q.side, q.easting, q.northing))
 }
 
 fn asked(q: Question) {
@@ -61,7 +56,7 @@ fn asked(q: Question) {
     word(words::ANSWER);
 }
 
-fn show(a: Answer) {
+fn show(a: Told) {
     if a.refusal != 0 {
         refusal(a.refusal);
         return;
@@ -70,8 +65,8 @@ fn show(a: Answer) {
     number(a.second);
 }
 
-fn row(q: Question, right: Answer) -> bool
-    ensures { λ r. ⌜ r ≡ isNear 0 (cellTold (q .side) (q .easting) (q .northing)) (toldOf right) ⌝ }
+fn row(q: Question, right: Told) -> bool
+    ensures { λ r. ⌜ r ≡ isNear 0 (cellTold (q .side) (q .easting) (q .northing)) right ⌝ }
 {
     asked(q);
     let found = answer(q);

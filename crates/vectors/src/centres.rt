@@ -4,8 +4,8 @@ use crate::rows::forward_of;
 use crate::rows::inverse_of;
 use crate::rows::row;
 use crate::rows::set;
-use judging::gaps::accepted;
 use parameters::Parameters;
+use units::answers::accepted;
 
 // A longitude that is no centre's.
 const ELSEWHERE: i64 = 123_456_789;

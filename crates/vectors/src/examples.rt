@@ -5,10 +5,10 @@ use crate::rows::ground_row;
 use crate::rows::inverse_of;
 use crate::rows::row;
 use crate::rows::set;
-use judging::gaps::accepted;
 use parameters::Parameters;
 use sine_table::Table;
 use trig::cosine;
+use units::answers::accepted;
 ghost use Rattle.sine_table.specs.Table.{IsTable};
 
 // In cm.

@@ -8,11 +8,11 @@ use crate::rows::refused_row;
 use crate::rows::row;
 use crate::rows::set;
 use integers::near;
-use judging::gaps::accepted;
 use parameters::Parameters;
 use printing::value;
 use sine_table::Table;
 use trig::cosine;
+use units::answers::accepted;
 use units::refusals::TOO_FAR;
 ghost use Rattle.sine_table.specs.Table.{IsTable};
 

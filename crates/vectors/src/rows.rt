@@ -1,16 +1,14 @@
 // A row runs one call and prints its name, what was asked, the answer, what was expected and how far off it is. It gives
 // back its verdict.
 use crate::names::name;
-use azimuthal_forward::PlaneAnswer;
-use azimuthal_inverse::GeodeticAnswer;
+use azimuthal_forward::forward;
+use azimuthal_forward::plane_told;
+use azimuthal_inverse::geodetic_told;
 use azimuthal_inverse::inverse;
-use judging::gaps::Answer;
 use judging::gaps::Gaps;
-use judging::gaps::accepted;
 use judging::gaps::gaps_of;
 use judging::gaps::is_right;
 use judging::gaps::on_ground;
-use judging::gaps::refused;
 use latitudes::Geodetic;
 use parameters::Parameters;
 use printing::number;
@@ -19,12 +17,12 @@ use printing::size;
 use printing::verdict;
 use printing::words;
 use printing::words::word;
+use units::answers::Told;
+use units::answers::refused;
 ghost use mathlib.Core.Path.{_≡_};
 ghost use Rattle.units.specs.Answers.{refused};
-ghost use Rattle.judging.specs.Gaps.{toldOf};
-ghost use Rattle.azimuthal_forward.specs.Answer.{forwardTold};
-ghost use Rattle.azimuthal_inverse.specs.Answer.{inverseTold};
-ghost use Rattle.vectors.specs.Rows.{setOf, toldBy, isNear, isNearOnGround, forwardAsked, inverseAsked};
+ghost use Rattle.parameters.specs.ParameterSet.{setOf};
+ghost use Rattle.vectors.specs.Rows.{toldBy, isNear, isNearOnGround, forwardAsked, inverseAsked};
 
 // A set by its numbers, in the order of document 01's table.
 pub(crate) fn set(
@@ -77,40 +75,17 @@ pub(crate) fn inverse_of(set: Parameters, easting: i64, northing: i64) -> Questi
     }
 }
 
-fn forward_answer(p: Parameters, lat: Geodetic, lon: i64) -> Answer
-    ensures { λ r. ⌜ toldOf r ≡ forwardTold p lat lon ⌝ }
-{
-    let found = azimuthal_forward::forward(p, lat, lon);
-    match found {
-        PlaneAnswer::Plane { easting, northing } => accepted(easting, northing),
-        PlaneAnswer::Refused(number) => refused(number),
-    }
-}
-
-fn inverse_answer(p: Parameters, easting: i64, northing: i64) -> Answer
-    ensures { λ r. ⌜ toldOf r ≡ inverseTold p easting northing ⌝ }
-{
-    let found = inverse(p, easting, northing);
-    match found {
-        GeodeticAnswer::Position {
-            latitude,
-            longitude,
-        } => accepted(latitude.0, longitude),
-        GeodeticAnswer::Refused(number) => refused(number),
-    }
-}
-
-fn answer(q: Question) -> Answer
-    ensures { λ r. ⌜ toldOf r ≡ toldBy q ⌝ }
+fn answer(q: Question) -> Told
+    ensures { λ r. ⌜ r ≡ toldBy q ⌝ }
 {
     let p = q.set;
     if q.forward {
-        return forward_answer(p, Geodetic(q.first), q.second);
+        return plane_told(forward(p, Geodetic(q.first), q.second));
     }
-    inverse_answer(p, q.first, q.second)
+    geodetic_told(inverse(p, q.first, q.second))
 }
 
-fn show(forward: bool, a: Answer) {
+fn show(forward: bool, a: Told) {
     if a.refusal != 0 {
         refusal(a.refusal);
         return;
@@ -140,8 +115,8 @@ fn asked(k: usize, q: Question) {
 }
 
 // The row up to what was expected.
-fn run(k: usize, q: Question, right: Answer) -> Answer
-    ensures { λ r. ⌜ toldOf r ≡ toldBy q ⌝ }
+fn run(k: usize, q: Question, right: Told) -> Told
+    ensures { λ r. ⌜ r ≡ toldBy q ⌝ }
 {
     asked(k, q);
     let found = answer(q);
@@ -162,8 +137,8 @@ fn show_gaps(off: Gaps, unit: usize, most: u64) {
 }
 
 // Either value may be off by at most so many cm forward, and so many mas inverse.
-pub(crate) fn row(k: usize, q: Question, right: Answer, most: u64) -> bool
-    ensures { λ r. ⌜ r ≡ isNear most (toldBy q) (toldOf right) ⌝ }
+pub(crate) fn row(k: usize, q: Question, right: Told, most: u64) -> bool
+    ensures { λ r. ⌜ r ≡ isNear most (toldBy q) right ⌝ }
 {
     let found = run(k, q, right);
     let off = gaps_of(found, right);
@@ -176,8 +151,8 @@ pub(crate) fn row(k: usize, q: Question, right: Answer, most: u64) -> bool
 }
 
 // Latitude and longitude may be off by at most so many cm on the ground; `cosine` is that of the latitude expected.
-pub(crate) fn ground_row(k: usize, q: Question, right: Answer, cosine: i64, most: u64) -> bool
-    ensures { λ r. ⌜ r ≡ isNearOnGround (q .set .a) cosine most (toldBy q) (toldOf right) ⌝ }
+pub(crate) fn ground_row(k: usize, q: Question, right: Told, cosine: i64, most: u64) -> bool
+    ensures { λ r. ⌜ r ≡ isNearOnGround (q .set .a) cosine most (toldBy q) right ⌝ }
 {
     let found = run(k, q, right);
     let p = q.set;

@@ -12,6 +12,7 @@ use mir.Val.{toZ, ofZ}
 use mir.Facts.{toZ-ofZ}
 use Rattle.proof_kit.proofs.Range.{returned}
 use Rattle.units.specs.Spans.{on-plane}
+use Rattle.units.proofs.AnswerLaws.{and-told}
 use Rattle.cells.specs.declared.CellAnswer.{CellAnswer}
 use Rattle.cells.specs.declared.CellAnswer.the-variants.{Cell}
 use Rattle.cells.specs.Cells.{accepted-side, cellNumber, cellOf, cell-told, cellTold}
@@ -47,7 +48,7 @@ plane-is c =
 
 -- an answer that is the definition's tells what it has to
 promised : {r : CellAnswer} (side E N : ℤ) → cellOf side E N ≡ r → (r ≡ cellOf side E N) × (cell-told r ≡ cellTold side E N)
-promised side E N e = (sym e, ap cell-told (sym e) ∙ cell-tells side E N)
+promised side E N e = and-told cell-told (cell-tells side E N) (sym e)
 
 is-side-requires : tie.Need-is-side-requires
 is-side-requires c κs = search needs

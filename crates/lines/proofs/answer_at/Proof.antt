@@ -6,7 +6,8 @@ use Prim.Native.Nat.{_<_}
 use native.Mathlib.Omega.{arith}
 use lib.ListN.{length}
 use Rattle.text.proofs.Pasting.{put-as, put-next}
-use Rattle.lines.specs.Lines.{replyOf, newline, answerText, answerLine, answer-most}
+use Rattle.text.specs.Ascii.{newline}
+use Rattle.lines.specs.Lines.{replyOf, answerText, answerLine, answer-most}
 use Rattle.replies.specs.Replies.{replyText}
 use Rattle.lines.proofs.Sizes.{reply-fits}
 use borrow.Author.Needs.{needs}

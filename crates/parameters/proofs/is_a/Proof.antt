@@ -1,7 +1,7 @@
 -- `is_a` meets its contract: the limits are those of the table, and the number is passed on as it is. Assumes nothing.
 use borrow.Author.Needs.{needs}
 use mathlib.Core.Path.{ap, _∙_}
-use lib.IntN.{pos, negℤ}
+use lib.IntN.{pos}
 use mir.Facts.{toZ-ofZ}
 use Rattle.units.specs.Spans.{within}
 use Rattle.parameters.specs.ParameterSet.{accepted-a}

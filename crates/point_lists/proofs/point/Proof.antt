@@ -1,6 +1,6 @@
 -- `point` meets its contract: each arm is a direction, and the row is what the single call's answer tells. Assumes nothing.
 use borrow.Author.Needs.{needs}
-use mathlib.Core.Path.{_≡_, sym, ap, _∙_}
+use mathlib.Core.Path.{sym, ap, _∙_}
 use mathlib.Core.Bool.{Bool}
 use Rattle.points.specs.Pairs.{plane-row, geodetic-row, degrees, metres}
 use Rattle.points.proofs.AnswerLaws.{forward-tells, inverse-tells}

@@ -4,7 +4,7 @@ use mathlib.Core.Path.{ap, _∙_}
 use mathlib.Core.List.{List}
 use Prim.Native.Nat.{ℕ, _+_}
 use Rattle.bytes.specs.Bytes.{indexOf}
-use Rattle.printing.specs.Texts.{newline}
+use Rattle.text.specs.Ascii.{newline}
 use Rattle.printing.proofs.TextLaws.{slice-rest}
 use Rattle.printing.proofs.line_end.Statement.{statement}
 use Rattle.printing.proofs.line_end.Tie as tie

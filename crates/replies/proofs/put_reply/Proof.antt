@@ -8,10 +8,11 @@ use lib.ListN.{length}
 use mir.Syntax.{w64}
 use mir.Val.{SFits, toZ, ofZ}
 use mir.Facts.{toZ-ofZ, toZ-pos}
+use Rattle.text.specs.Ascii.{ascii}
 use Rattle.text.proofs.Pasting.{put-as}
 use Rattle.replies.specs.declared.Reply.{Reply}
 use Rattle.replies.specs.declared.Reply.the-variants.{Plane, Position, Refused}
-use Rattle.replies.specs.Replies.{refused-label, labelled, badLine, replyText}
+use Rattle.replies.specs.Replies.{labelled, replyText}
 use borrow.Author.Needs.{needs}
 use Rattle.replies.proofs.put_reply.Statement.{statement}
 use Rattle.replies.proofs.put_reply.Tie as tie
@@ -26,8 +27,8 @@ pair-is :
 pair-is variant x y fits-x fits-y e =
     ap₂ (λ (a b : ℤ). replyText (variant a b)) (toZ-ofZ fits-x) (toZ-ofZ fits-y) ∙ sym (ap replyText e)
 
-refusal-is : {reply : Reply} (n : ℕ) → n < 2 ^ 63 → reply ≡ Refused n → labelled refused-label (toZ w64 n) ≡ replyText reply
-refusal-is n small e = ap (labelled refused-label) (toZ-pos w64 small) ∙ sym (ap replyText e)
+refusal-is : {reply : Reply} (n : ℕ) → n < 2 ^ 63 → reply ≡ Refused n → labelled (ascii "refused ") (toZ w64 n) ≡ replyText reply
+refusal-is n small e = ap (labelled (ascii "refused ")) (toZ-pos w64 small) ∙ sym (ap replyText e)
 
 -- room for the text under one name is room for it under another
 room-as : (at : ℕ) {ys zs : List ℕ} {n : ℕ} → ys ≡ zs → at + length zs ≤ n → at + length ys ≤ n
@@ -47,10 +48,10 @@ position-is : (c : tie.After-known-told2) →
 position-is c = let given = c .before .reply2 .given in pair-is Position (given .0 .0) (given .0 .1 .0) (search needs) (search needs) (given .1)
 
 number-is : (c : tie.After-known-told3) →
-    labelled refused-label (toZ w64 (c .before .reply3 .given .0 .0)) ≡ replyText (c .before .before .before .before .args .reply)
+    labelled (ascii "refused ") (toZ w64 (c .before .reply3 .given .0 .0)) ≡ replyText (c .before .before .before .before .args .reply)
 number-is c = let given = c .before .reply3 .given in refusal-is (given .0 .0) (omega arith) (given .1)
 
-bad-is : (c : tie.After-enum-told) → badLine ≡ replyText (c .before .before .before .args .reply)
+bad-is : (c : tie.After-enum-told) → ascii "bad line" ≡ replyText (c .before .before .before .args .reply)
 bad-is c = sym (ap replyText (c .enum-told .given .1))
 
 enum-known-reply : tie.Need-enum-known-reply

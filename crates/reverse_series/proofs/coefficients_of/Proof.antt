@@ -7,14 +7,13 @@ use native.Mathlib.Omega.{arith}
 use lib.Dec.{lit<, lit≤}
 use lib.IntN.{ℤ, pos, natAbs, _+ℤ_, _*ℤ_, +ℤ-idr}
 use lib.Signed.{mag}
-use mir.Facts.{toZ-ofZ}
 use Rattle.proof_kit.proofs.Range.{kept, returned}
 use Rattle.proof_kit.proofs.Size.{abs-mul-le}
 use Rattle.integers.specs.Near.{near}
 use Rattle.constants.specs.Derived.{to-mas, e4, e6}
 use Rattle.constants.proofs.SeriesLaws.{e4-size, e6-size, third}
 use Rattle.billionths.proofs.Calls.{back, near-is, product-is}
-use Rattle.reverse_series.specs.ReverseSeries.{coefficientsOf, SmallCoefficients}
+use Rattle.reverse_series.specs.ReverseSeries.{coefficientsOf}
 use Rattle.reverse_series.proofs.coefficients_of.Statement.{statement}
 use Rattle.reverse_series.proofs.coefficients_of.Tie as tie
 

@@ -1,12 +1,9 @@
 -- `latitude` meets its contract: it is the series with the coefficients of e2, at β. Assumes nothing.
-use mathlib.Core.Path.{_≡_, ap, _∙_}
+use mathlib.Core.Path.{_≡_}
 use lib.Dec.{lit<}
-use lib.IntN.{ℤ}
 use Rattle.proof_kit.proofs.Range.{kept, returned}
-use Rattle.units.specs.Units.{right-angle}
 use Rattle.billionths.proofs.Calls.{back}
-use Rattle.reverse_series.specs.declared.Coefficients.{Coefficients}
-use Rattle.reverse_series.specs.ReverseSeries.{coefficientsOf, series, reversed}
+use Rattle.reverse_series.specs.ReverseSeries.{reversed}
 use Rattle.reverse_series.proofs.latitude.Statement.{statement}
 use Rattle.reverse_series.proofs.latitude.Tie as tie
 

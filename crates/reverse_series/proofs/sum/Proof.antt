@@ -3,7 +3,7 @@
 use mathlib.Core.Path.{_≡_, ap, _∙_}
 use Prim.Native.Nat.{_≤_}
 use lib.Dec.{lit<}
-use lib.IntN.{ℤ, pos, natAbs, _+ℤ_, _*ℤ_}
+use lib.IntN.{ℤ, natAbs, _+ℤ_, _*ℤ_}
 use Rattle.proof_kit.proofs.Range.{code, fits, read, read-room, returned}
 use Rattle.proof_kit.proofs.Size.{as-size}
 use Rattle.integers.specs.Near.{near}
@@ -11,7 +11,7 @@ use Rattle.units.specs.Units.{unit, U, right-angle}
 use Rattle.trig.specs.Sine.{sine}
 use Rattle.trig.proofs.Interface.{sine-size}
 use Rattle.reverse_series.specs.declared.Coefficients.{Coefficients}
-use Rattle.reverse_series.specs.ReverseSeries.{series, SmallCoefficients}
+use Rattle.reverse_series.specs.ReverseSeries.{series}
 use Rattle.reverse_series.proofs.sum.Statement.{statement}
 use Rattle.reverse_series.proofs.sum.Tie as tie
 

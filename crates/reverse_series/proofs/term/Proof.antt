@@ -1,6 +1,6 @@
 -- `term` meets its contract: the product is at most 10,000,000, so it and the half that `near` adds fit, and the rounded
 -- quotient is no larger than the product and that half. Assumes nothing.
-use mathlib.Core.Path.{_≡_, ap₂, _∙_}
+use mathlib.Core.Path.{_≡_, ap₂}
 use Prim.Native.Nat.{_≤_}
 use native.Mathlib.Omega.{arith}
 use lib.Dec.{lit<}

@@ -3,7 +3,8 @@ use borrow.Author.Needs.{needs}
 use mathlib.Core.Path.{ap, _∙_}
 use Rattle.parameters.specs.declared.Parameters.{Parameters}
 use Rattle.points.specs.Pairs.{forwardRow, degrees}
-use Rattle.laea_c.proofs.CallLaws.{floats-answered}
+use Rattle.laea_c.specs.Calls.{AnswersFloats}
+use Rattle.laea_c.proofs.CallLaws.{alike}
 use Rattle.laea_c.proofs.degrees.laea1_forward.Statement.{statement}
 use Rattle.laea_c.proofs.degrees.laea1_forward.Tie as tie
 
@@ -26,7 +27,7 @@ returns c =
     let set = call .before in
     let x = set .before .args in
     let set-is = ap (λ (p : Parameters). forwardRow p (degrees (x .latitude) (x .longitude))) (set .parameters-of .ensures) in
-    floats-answered (row .plane-row .ensures ∙ call .forward-degrees .ensures .1 ∙ set-is) (c .answer-floats .ensures)
+    alike AnswersFloats (row .plane-row .ensures ∙ call .forward-degrees .ensures .1 ∙ set-is) (c .answer-floats .ensures)
 
 pub laea1-forward-spec : {M : Type 1} → statement M
 laea1-forward-spec = tie.close (tie.spec parameters-of-requires forward-degrees-requires plane-row-requires answer-floats-requires returns)

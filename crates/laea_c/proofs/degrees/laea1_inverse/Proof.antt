@@ -3,7 +3,8 @@ use borrow.Author.Needs.{needs}
 use mathlib.Core.Path.{ap, _∙_}
 use Rattle.parameters.specs.declared.Parameters.{Parameters}
 use Rattle.points.specs.Pairs.{inverseRow, metres}
-use Rattle.laea_c.proofs.CallLaws.{floats-answered}
+use Rattle.laea_c.specs.Calls.{AnswersFloats}
+use Rattle.laea_c.proofs.CallLaws.{alike}
 use Rattle.laea_c.proofs.degrees.laea1_inverse.Statement.{statement}
 use Rattle.laea_c.proofs.degrees.laea1_inverse.Tie as tie
 
@@ -26,7 +27,7 @@ returns c =
     let set = call .before in
     let x = set .before .args in
     let set-is = ap (λ (p : Parameters). inverseRow p (metres (x .first) (x .second))) (set .parameters-of .ensures) in
-    floats-answered (row .geodetic-row .ensures ∙ call .inverse-metres .ensures .1 ∙ set-is) (c .answer-floats .ensures)
+    alike AnswersFloats (row .geodetic-row .ensures ∙ call .inverse-metres .ensures .1 ∙ set-is) (c .answer-floats .ensures)
 
 pub laea1-inverse-spec : {M : Type 1} → statement M
 laea1-inverse-spec = tie.close (tie.spec parameters-of-requires inverse-metres-requires geodetic-row-requires answer-floats-requires returns)

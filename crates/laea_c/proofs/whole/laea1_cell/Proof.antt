@@ -1,53 +1,27 @@
--- The library's answer is one of its two cases, and each arm answers what its case tells. Assumes nothing.
+-- The answer is the library's for the numbers passed, and it is written as it tells. Assumes nothing.
 use borrow.Author.Needs.{needs}
-use mathlib.Core.Path.{_≡_, refl, _∙_}
+use mathlib.Core.Path.{_∙_}
 use mir.Facts.{toZ-ofZ}
-use Rattle.cells.specs.Cells.{cell-told, cellTold}
-use Rattle.laea_c.proofs.CallLaws.{case-answered}
+use Rattle.laea_c.specs.Calls.{AnswersWhole}
+use Rattle.laea_c.proofs.CallLaws.{alike}
 use Rattle.laea_c.proofs.whole.laea1_cell.Statement.{statement}
 use Rattle.laea_c.proofs.whole.laea1_cell.Tie as tie
 
 cell-requires : tie.Need-cell-requires
 cell-requires c κs = search needs
 
-enum-known-answer : tie.Need-enum-known-answer
-enum-known-answer c = search needs
+cell-told-requires : tie.Need-cell-told-requires
+cell-told-requires c κs = search needs
 
 answer-whole-requires : tie.Need-answer-whole-requires
 answer-whole-requires c κs = search needs
 
-enum-known-answer-2 : tie.Need-enum-known-answer-2
-enum-known-answer-2 c = search needs
-
-answer-whole-requires-2 : tie.Need-answer-whole-requires-2
-answer-whole-requires-2 c κs = search needs
-
-tells : (c : tie.After-cell) →
-    let x = c .before .args in
-    cell-told (c .cell .result) ≡ cellTold (x .side) (x .easting) (x .northing)
-tells c =
-    let fits = c .before .fits in
-    c .cell .ensures .1 ∙ rw (toZ-ofZ (fits .side), toZ-ofZ (fits .easting), toZ-ofZ (fits .northing))
-
 returns : tie.Need-returns
 returns c =
-    let arm = c .before .before .before in
-    case-answered cell-told (arm .answer .given .1) (tells (arm .before .before)) (toZ-ofZ (search needs)) (toZ-ofZ (search needs))
-    (c .answer-whole .ensures)
-
-returns-2 : tie.Need-returns-2
-returns-2 c =
-    let arm = c .before .before .before in
-    case-answered cell-told (arm .answer2 .given .1) (tells (arm .before .before)) refl refl (c .answer-whole2 .ensures)
+    let told = c .before .before in
+    let call = told .before in
+    let f = call .before .fits in
+    alike AnswersWhole (told .cell-told .ensures ∙ call .cell .ensures .1 ∙ rw (toZ-ofZ (f .side), toZ-ofZ (f .easting), toZ-ofZ (f .northing))) (c .answer-whole .ensures)
 
 pub laea1-cell-spec : {M : Type 1} → statement M
-laea1-cell-spec =
-    tie.close
-    (tie.spec
-    cell-requires
-    enum-known-answer
-    answer-whole-requires
-    enum-known-answer-2
-    answer-whole-requires-2
-    returns
-    returns-2)
+laea1-cell-spec = tie.close (tie.spec cell-requires cell-told-requires answer-whole-requires returns)

@@ -2,7 +2,6 @@
 use borrow.Author.Needs.{needs}
 use mathlib.Core.Path.{_∙_}
 use Rattle.cells.specs.Cells.{cellTold}
-use Rattle.judging.specs.Gaps.{toldOf}
 use Rattle.vectors.proofs.RowLaws.{near}
 use Rattle.vectors.proofs.cell_rows.row.Statement.{statement}
 use Rattle.vectors.proofs.cell_rows.row.Tie as tie
@@ -36,7 +35,7 @@ returns c =
     let gaps = c .before .before in
     let answer = gaps .before .before .before .before in
     let a = answer .before .before .args in
-    near (toldOf (answer .answer .result)) (cellTold (a .q .side) (a .q .easting) (a .q .northing)) (toldOf (a .right)) (gaps .gaps-of .result) 0
+    near (answer .answer .result) (cellTold (a .q .side) (a .q .easting) (a .q .northing)) (a .right) (gaps .gaps-of .result) 0
     (c .verdict .ensures ∙ c .before .is-right .ensures)
     (answer .answer .ensures)
     (gaps .gaps-of .ensures)

@@ -2,7 +2,6 @@
 -- Assumes nothing.
 use borrow.Author.Needs.{needs}
 use mathlib.Core.Path.{_∙_}
-use Rattle.judging.specs.Gaps.{toldOf}
 use Rattle.vectors.specs.Rows.{toldBy}
 use Rattle.vectors.proofs.RowLaws.{near-on-ground}
 use Rattle.vectors.proofs.rows.ground_row.Statement.{statement}
@@ -32,7 +31,7 @@ returns c =
     let gaps = ground .before .before in
     let run = gaps .before .before in
     let start = run .before in
-    near-on-ground (toldOf (run .run .result)) (toldBy (start .args .q)) (toldOf (start .args .right)) (ground .on-ground .result) (start .args .most)
+    near-on-ground (run .run .result) (toldBy (start .args .q)) (start .args .right) (ground .on-ground .result) (start .args .most)
     (c .verdict .ensures ∙ c .before .is-right .ensures)
     (run .run .ensures)
     (gaps .gaps-of .result)

@@ -1,7 +1,6 @@
 -- `rows::refused_row` meets its contract: what is given back is the verdict, on the answer of the call and its gaps. Assumes nothing.
 use borrow.Author.Needs.{needs}
 use mathlib.Core.Path.{ap, _∙_}
-use Rattle.judging.specs.Gaps.{toldOf}
 use Rattle.vectors.specs.Rows.{toldBy, isNear}
 use Rattle.vectors.proofs.RowLaws.{near}
 use Rattle.vectors.proofs.rows.refused_row.Statement.{statement}
@@ -26,7 +25,7 @@ returns : tie.Need-returns
 returns c =
     let gaps = c .before .before in
     let start = gaps .before .before .before in
-    near (toldOf (gaps .before .run .result)) (toldBy (start .args .q)) (toldOf (gaps .before .before .refused .result)) (gaps .gaps-of .result) 0
+    near (gaps .before .run .result) (toldBy (start .args .q)) (gaps .before .before .refused .result) (gaps .gaps-of .result) 0
     (c .verdict .ensures ∙ c .before .is-right .ensures)
     (gaps .before .run .ensures)
     (gaps .gaps-of .ensures)

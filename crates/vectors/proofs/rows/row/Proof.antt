@@ -1,7 +1,6 @@
 -- `rows::row` meets its contract: what is given back is the verdict, on the answer of the call and its gaps. Assumes nothing.
 use borrow.Author.Needs.{needs}
 use mathlib.Core.Path.{_∙_}
-use Rattle.judging.specs.Gaps.{toldOf}
 use Rattle.vectors.specs.Rows.{toldBy}
 use Rattle.vectors.proofs.RowLaws.{near}
 use Rattle.vectors.proofs.rows.row.Statement.{statement}
@@ -29,7 +28,7 @@ returns : tie.Need-returns
 returns c =
     let gaps = c .before .before .before in
     let start = gaps .before .before in
-    near (toldOf (gaps .before .run .result)) (toldBy (start .args .q)) (toldOf (start .args .right)) (gaps .gaps-of .result) (start .args .most)
+    near (gaps .before .run .result) (toldBy (start .args .q)) (start .args .right) (gaps .gaps-of .result) (start .args .most)
     (c .verdict .ensures ∙ c .before .is-right .ensures)
     (gaps .before .run .ensures)
     (gaps .gaps-of .ensures)

@@ -11,7 +11,7 @@ use Rattle.latitudes.specs.Latitude.{geodetic}
 use Rattle.constants.specs.declared.Constants.{Constants}
 use Rattle.constants.specs.Derived.{seriesOf, constantsOf}
 use Rattle.constants.proofs.ConstantsLaws.{sound-as}
-use Rattle.vectors.specs.Rows.{setOf}
+use Rattle.parameters.specs.ParameterSet.{setOf}
 use Rattle.vectors.proofs.SeriesLaws.{e2-decides}
 use Rattle.vectors.proofs.series_rows.steps.Statement.{statement}
 use Rattle.vectors.proofs.series_rows.steps.Tie as tie

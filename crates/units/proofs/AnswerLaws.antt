@@ -1,0 +1,24 @@
+-- Answers by their refusal number. Each law is by the two cases, 0 and another number. Assumes nothing.
+use mathlib.Core.Path.{_≡_, refl, ap, _∙_}
+use Prim.Native.Nat.{ℕ, zero, suc}
+use Rattle.units.specs.Refusals.{firstOf}
+use Rattle.units.specs.Answers.{answered}
+
+module _ {A B : Type 0} (tell : A → B) (refuse : ℕ → A) where
+  -- what an answer tells is what its case tells
+  pub answer-tells : (n : ℕ) (given : A) → tell (answered refuse n given) ≡ answered (λ (m : ℕ). tell (refuse m)) n (tell given)
+  answer-tells zero given = refl
+  answer-tells (suc n) given = refl
+
+-- an answer that is the right one tells what the right one does
+pub and-told : {A B : Type 0} {r right : A} (tell : A → B) {said : B} → tell right ≡ said → r ≡ right → (r ≡ right) × (tell r ≡ said)
+and-told tell tells is = (is, ap tell is ∙ tells)
+
+-- where the set is refused, so is the call
+pub set-refused :
+    {A : Type 0} (refuse : ℕ → A) (given : A) (set next n : ℕ) →
+    (n ≡ 0 → ⊥) →
+    set ≡ n →
+    answered refuse (firstOf set next) given ≡ refuse n
+set-refused refuse given set next zero some is = absurd (some refl)
+set-refused refuse given set next (suc n) some is = rw is
