@@ -13,12 +13,12 @@ use Rattle.proof_kit.proofs.Range.{code, read}
 use Rattle.proof_kit.proofs.Ring.{ring, quote}
 use Rattle.proof_kit.proofs.Size.{within}
 use Rattle.proof_kit.proofs.Order.{≤ℤ-trans, leZ-true, le-leZ, abs-lower}
-use Rattle.integers.proofs.Greatest.{Falls}
+use Rattle.integers.proofs.Greatest.{Falls, greatest-le}
 use Rattle.integers.proofs.Search.{Threshold}
 use Rattle.units.specs.Units.{right-angle, half-turn}
 use Rattle.latitudes.specs.declared.AuthalicSeries.{AuthalicSeries}
 use Rattle.latitudes.specs.declared.Authalic.{Authalic}
-use Rattle.latitudes.specs.Latitude.{SmallSeries, Searchable, beta, from-south-pole, not-above}
+use Rattle.latitudes.specs.Latitude.{SmallSeries, Searchable, beta, from-south-pole, not-above, geodetic}
 use Rattle.latitudes.proofs.AuthalicLaws.{betaMas, beta-mono, beta-south-pole}
 
 pub not-above-pole : (k : AuthalicSeries) (β : Authalic) → natAbs (β .0) ≤ right-angle → not-above k β 0 ≡ true
@@ -57,3 +57,8 @@ from-south-pole-size n h = within n right-angle (omega arith) (omega arith)
 pub counted : (n : ℕ) → n ≤ half-turn → toZ w64 (ofZ w64 (toZ w64 n -ℤ pos right-angle)) ≡ from-south-pole n .0
 unfolding from-south-pole
 counted n h = read (search code depth 40 fits 20000) tt
+
+-- a latitude that is found lies from pole to pole
+pub geodetic-size : (k : AuthalicSeries) (β : Authalic) → natAbs (geodetic k β .0) ≤ right-angle
+unfolding geodetic
+geodetic-size k β = from-south-pole-size _ (greatest-le (not-above k β) half-turn)

@@ -13,15 +13,11 @@ use Rattle.proof_kit.proofs.Order.{abs-between, <ℤ-≤ℤ, leZ-true}
 use Rattle.proof_kit.proofs.Size.{abs-add-le, abs-mul-le}
 use Rattle.integers.specs.Near.{near}
 use Rattle.integers.proofs.Rounding.{near-at-most}
-use Rattle.integers.proofs.Greatest.{greatest-le}
-use Rattle.units.specs.Units.{right-angle, half-turn}
+use Rattle.units.specs.Units.{half-turn}
 use Rattle.units.specs.Spans.{on-plane, wrapped}
 use Rattle.units.proofs.Spans.{wrapped-range}
 use Rattle.latitudes.specs.declared.Geodetic.{Geodetic}
-use Rattle.latitudes.specs.declared.Authalic.{Authalic}
-use Rattle.latitudes.specs.declared.AuthalicSeries.{AuthalicSeries}
-use Rattle.latitudes.specs.Latitude.{not-above, geodetic}
-use Rattle.latitudes.proofs.GeodeticLaws.{from-south-pole-size}
+use Rattle.latitudes.proofs.GeodeticLaws.{geodetic-size}
 use Rattle.parameters.specs.ParameterSet.{etrsLaea}
 use Rattle.constants.specs.declared.Constants.{Constants}
 use Rattle.constants.specs.Derived.{constantsOf}
@@ -96,10 +92,6 @@ forward-small φ lon =
     (λ off. rw (forward-off-globe etrsLaea φ lon etrs-accepted off) (lit< tt))
 
 -- ---- inverse
-
-geodetic-size : (s : AuthalicSeries) (β : Authalic) → natAbs (geodetic s β .0) ≤ right-angle
-unfolding geodetic
-geodetic-size s β = from-south-pole-size _ (greatest-le (not-above s β) half-turn)
 
 wrapped-size : (s : SpherePoint) → natAbs (wrapped (etrsLaea .lon0 +ℤ longitudeOf s)) ≤ half-turn
 wrapped-size s =

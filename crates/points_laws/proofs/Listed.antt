@@ -1,12 +1,11 @@
 -- A list call at an index. Its contract says what each list is after the call by its refusal number: with 0 the columns of the rows of its points, so
 -- at an index the row of the point there, which is by definition what the single call tells of it; with another number what was there. So a law of
 -- all points with an accepted set holds at each index of a call that is not refused. Assumes nothing.
-use mathlib.Core.Path.{_≡_, refl, sym, ap, _∙_, subst}
+use mathlib.Core.Path.{_≡_, sym, ap, _∙_, subst}
 use mathlib.Core.List.{List}
 use Prim.Native.Nat.{ℕ, zero, suc, _<_}
 use lib.Ieee.{Float, nan}
 use lib.ListN.{length, getD}
-use Rattle.units.specs.Refusals.{firstOf}
 use Rattle.parameters.specs.declared.Parameters.{Parameters}
 use Rattle.parameters.specs.ParameterSet.{setRefusal}
 use Rattle.points.specs.declared.pairs.Row.{Row}
@@ -19,11 +18,7 @@ use Rattle.point_lists.proofs.ListLaws.{column-at, column-length}
 use Rattle.point_lists.proofs.ListedLaws.{equal-lengths}
 use Rattle.points_laws.specs.Theorems.{rowAt, AtEachIndex, ForwardToldAt, InverseToldAt}
 use Rattle.points_laws.specs.Theorems.{ForwardListed, InverseListed, ListCounted, ListRefused}
-use Rattle.points_laws.proofs.Rows.{nothing}
-
-none-of-two : (a b : ℕ) → firstOf a b ≡ 0 → (a ≡ 0) × (b ≡ 0)
-none-of-two zero b e = (refl, e)
-none-of-two (suc a) b e = nothing e
+use Rattle.units.proofs.Chains.{both-passed}
 
 same-row : {r : Row} {m : ℕ} {x y : Float} → m ≡ r .mark → x ≡ r .first → y ≡ r .second → record { mark = m; first = x; second = y } ≡ r
 same-row e f g = rw (e, f, g)
@@ -32,7 +27,7 @@ same-row e f g = rw (e, f, g)
 module _ (p : Parameters) (xs ys first second : List Float) (mark : List ℕ) (none : listRefusal p xs ys first second mark ≡ 0) where
   tests-passed : (lengthRefusal (length xs) (length ys) (length first) (length second) (length mark) ≡ 0) × (setRefusal p ≡ 0)
   unfolding listRefusal
-  tests-passed = none-of-two (lengthRefusal (length xs) (length ys) (length first) (length second) (length mark)) (setRefusal p) none
+  tests-passed = both-passed (lengthRefusal (length xs) (length ys) (length first) (length second) (length mark)) (setRefusal p) none
 
   set-accepted : setRefusal p ≡ 0
   set-accepted = tests-passed .1

@@ -10,8 +10,9 @@ use lib.IntN.{ℤ, pos, _-ℤ_}
 use lib.Signed.{_<ℤ_}
 use lib.Ieee.{Float}
 use Rattle.proof_kit.proofs.Order.{leZ-false, lt-leZ}
-use Rattle.units.specs.Refusals.{too-far, unless}
+use Rattle.units.specs.Refusals.{too-far, unless, OneOf}
 use Rattle.units.specs.Answers.{answered}
+use Rattle.units.proofs.Chains.{Gives, chain, another}
 use Rattle.parameters.specs.declared.Parameters.{Parameters}
 use Rattle.parameters.specs.ParameterSet.{setRefusal}
 use Rattle.constants.specs.Derived.{constantsOf}
@@ -19,9 +20,6 @@ use Rattle.azimuthal_forward.specs.Steps.{near-enough}
 use Rattle.azimuthal_forward.specs.Answer.{nearness, forwardFar}
 use Rattle.azimuthal_inverse.specs.Steps.{at-origin, on-map, K, G}
 use Rattle.azimuthal_inverse.specs.Answer.{farFrom, inverseFar}
-use Rattle.projection_laws.specs.Theorems.{OneOf}
-use Rattle.projection_laws.proofs.Chains.{Gives, chain}
-use Rattle.projection_laws.proofs.Refusals.{another}
 use Rattle.points.specs.declared.pairs.GeodeticPair.{GeodeticPair}
 use Rattle.points.specs.declared.pairs.PlanePair.{PlanePair}
 use Rattle.points.specs.declared.pairs.PlanePairAnswer.the-variants.{Metres, Refused as PlaneRefused}

@@ -9,14 +9,13 @@ use mathlib.Core.Logic.{_⊎_, _↔_}
 use lib.IntN.{ℤ, pos, _-ℤ_}
 use lib.Signed.{_<ℤ_}
 use lib.Ieee.{Float}
-use Rattle.units.specs.Refusals.{bad-set, not-finite, out-of-limits, too-far, unequal-lists, long-lists}
+use Rattle.units.specs.Refusals.{bad-set, not-finite, out-of-limits, too-far, unequal-lists, long-lists, OneOf}
 use Rattle.parameters.specs.declared.Parameters.{Parameters}
 use Rattle.parameters.specs.ParameterSet.{setRefusal}
 use Rattle.constants.specs.declared.Constants.{Constants}
 use Rattle.constants.specs.Derived.{constantsOf}
 use Rattle.azimuthal_forward.specs.Answer.{nearness}
 use Rattle.azimuthal_inverse.specs.Steps.{at-origin, on-map, K, G}
-use Rattle.projection_laws.specs.Theorems.{OneOf}
 use Rattle.points.specs.declared.pairs.GeodeticPair.{GeodeticPair}
 use Rattle.points.specs.declared.pairs.PlanePair.{PlanePair}
 use Rattle.points.specs.declared.pairs.Row.{Row}

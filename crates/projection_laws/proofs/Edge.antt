@@ -28,7 +28,8 @@ use Rattle.parameters.proofs.AcceptedSet.{accepted}
 use Rattle.constants.proofs.ConstantsLaws.{Sound, sound}
 use Rattle.azimuthal_inverse.proofs.AnswerLaws.{from-too-far, inverse-on-plane}
 use Rattle.projection_laws.specs.Theorems.{EdgeInverse}
-use Rattle.projection_laws.proofs.Tests.{first-fails, second-fails, size-within, on-plane-by}
+use Rattle.units.proofs.Spans.{size-inside}
+use Rattle.projection_laws.proofs.Tests.{first-fails, second-fails, on-plane-by}
 
 -- constants with radii that are not 0
 module _ (k : Constants) (ok : Sound k) where
@@ -40,7 +41,7 @@ module _ (k : Constants) (ok : Sound k) where
 
   -- 2·RD is within ±2·RD, and 0 within ±2·RN
   twice : (r z : ℤ) → pos (natAbs r) ≡ r → natAbs z ≤ 2 * natAbs r → within (negℤ (pos 2 *ℤ r)) (pos 2 *ℤ r) z ≡ true
-  twice r z e h = subst (λ (x : ℤ). within (negℤ (pos 2 *ℤ x)) (pos 2 *ℤ x) z ≡ true) e (size-within (2 * natAbs r) z h)
+  twice r z e h = subst (λ (x : ℤ). within (negℤ (pos 2 *ℤ x)) (pos 2 *ℤ x) z ≡ true) e (size-inside (2 * natAbs r) z h)
 
   edge-on-map : on-map k (pos 2 *ℤ k .rd) (pos 0) ≡ true
   unfolding on-map

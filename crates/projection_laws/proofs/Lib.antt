@@ -1,5 +1,4 @@
 pub mod Tests
-pub mod Chains
 pub mod Beta
 pub mod Centre
 pub mod Edge

@@ -11,13 +11,10 @@ use lib.Signed.{_≤ℤ_, _<ℤ_}
 use Rattle.proof_kit.proofs.Ring.{ring, quote}
 use Rattle.proof_kit.proofs.Size.{abs-add-le}
 use Rattle.proof_kit.proofs.Order.{order, abs-upper}
-use Rattle.integers.proofs.Greatest.{greatest-le}
 use Rattle.units.specs.Units.{right-angle, half-turn, full-turn}
 use Rattle.trig.specs.Sine.{sine, cosine}
 use Rattle.trig.proofs.Interface.{sine-full-turn, sine-quarter-turn}
 use Rattle.latitudes.specs.declared.Geodetic.{Geodetic}
-use Rattle.latitudes.specs.declared.Authalic.{Authalic}
-use Rattle.latitudes.specs.declared.AuthalicSeries.{AuthalicSeries}
 use Rattle.parameters.specs.declared.Parameters.{Parameters}
 use Rattle.constants.specs.declared.Constants.{Constants}
 use Rattle.azimuthal_inverse.specs.declared.GeodeticAnswer.{GeodeticAnswer}
@@ -27,7 +24,7 @@ use Rattle.units.specs.Refusals.{unless}
 use Rattle.units.specs.declared.answers.Told.{Told}
 use Rattle.units.specs.Answers.{accepted, refused, answered}
 use Rattle.parameters.specs.ParameterSet.{setRefusal}
-use Rattle.latitudes.specs.Latitude.{not-above, geodetic}
+use Rattle.latitudes.specs.Latitude.{geodetic}
 use Rattle.constants.specs.Derived.{constantsOf}
 use Rattle.azimuthal_forward.specs.Steps.{b, c, u, v, w, G, dE, dN}
 use Rattle.azimuthal_forward.specs.Answer.{on-globe, nearness, forwardFar, forwardRefusal, eastingOf, northingOf, forwardOf}
@@ -36,17 +33,13 @@ use Rattle.azimuthal_inverse.specs.Answer.{latitudeFrom, longitudeFrom, inverse
 use Rattle.azimuthal_inverse.specs.Answer.{geodetic-told, inverseOf, inverseTold}
 use Rattle.azimuthal_inverse.proofs.AnswerLaws.{inverse-tells}
 use Rattle.parameters.proofs.AcceptedSet.{Accepted, accepted as accepted-set, lat0-size}
-use Rattle.latitudes.proofs.GeodeticLaws.{from-south-pole-size}
+use Rattle.latitudes.proofs.GeodeticLaws.{geodetic-size}
 use Rattle.azimuthal_inverse.proofs.AngleLaws.{longitude-size}
 use Rattle.units.proofs.Spans.{wrapped-range}
+use Rattle.units.proofs.Chains.{both-passed}
 use Rattle.projection_laws.specs.Theorems.{InverseRange, HalfTurnAlike}
-use Rattle.projection_laws.proofs.Chains.{first-passed}
 
 -- ---- the inverse
-
-geodetic-size : (k : AuthalicSeries) (β : Authalic) → natAbs (geodetic k β .0) ≤ right-angle
-unfolding geodetic
-geodetic-size k β = from-south-pole-size _ (greatest-le (not-above k β) half-turn)
 
 -- the latitude and the longitude, for any constants: the centre's own, or those of the point that the steps find
 module _ (p : Parameters) (ok : Accepted p) (k : Constants) (dE dN : ℤ) where
@@ -84,7 +77,7 @@ inverse-range p E N =
     subst InRange (sym (inverse-tells p E N))
     (told-range (inverseRefusal p E N) (inverseLatitude p E N .0) (inverseLongitude p E N)
     (λ passed.
-    let ok = accepted-set p (first-passed (setRefusal p) (unless (on-plane E N) 3 (inverseFar p E N)) passed) in
+    let ok = accepted-set p (both-passed (setRefusal p) (unless (on-plane E N) 3 (inverseFar p E N)) passed .0) in
     let dE = E -ℤ p .«false_easting» in
     let dN = N -ℤ p .«false_northing» in
     let longitude = longitude-range p ok (constantsOf p) dE dN in

@@ -1,14 +1,14 @@
 -- Which refusals the calls in whole units give: the chains of `forwardRefusal` and `inverseRefusal` have no other number. An answer is refused where its
 -- number is not 0 and carries that number, so what is told decides the answer.
 -- Assumes nothing.
-use mathlib.Core.Path.{_≡_, refl, sym, ap, ap₂, _∙_, subst}
-use mathlib.Core.List.{List, _∷_}
-use mathlib.Core.Logic.{inl, inr}
+use mathlib.Core.Path.{_≡_, refl, sym, ap, ap₂, _∙_}
+use mathlib.Core.List.{_∷_}
 use Prim.Native.Nat.{ℕ, zero, suc}
 use native.Mathlib.Omega.{arith}
 use lib.IntN.{ℤ}
 use Rattle.units.specs.declared.answers.Told.{Told}
 use Rattle.units.specs.Answers.{accepted, refused, answered}
+use Rattle.units.proofs.Chains.{Gives, chain, another}
 use Rattle.latitudes.specs.declared.Geodetic.{Geodetic}
 use Rattle.parameters.specs.ParameterSet.{setRefusal}
 use Rattle.azimuthal_forward.specs.declared.PlaneAnswer.the-variants.{Plane, Refused}
@@ -19,9 +19,8 @@ use Rattle.azimuthal_inverse.specs.Answer.{farFrom, inverseFar, inverseRefusal,
 use Rattle.azimuthal_inverse.specs.Answer.{inverseOf, inverseTold}
 use Rattle.azimuthal_inverse.proofs.AnswerLaws.{inverse-tells}
 use Rattle.latitudes.specs.Latitude.{latitude}
-use Rattle.projection_laws.specs.Theorems.{OneOf, whole-refusals, ForwardNumbers, InverseNumbers, ForwardRefused, InverseRefused}
+use Rattle.projection_laws.specs.Theorems.{whole-refusals, ForwardNumbers, InverseNumbers, ForwardRefused, InverseRefused}
 use Rattle.projection_laws.specs.Theorems.{ForwardDecided, InverseDecided}
-use Rattle.projection_laws.proofs.Chains.{Gives, chain}
 
 -- ---- the numbers of the chains
 
@@ -54,11 +53,6 @@ geodetic-number zero φ lon k e = let z : _≡_ {A = ℕ} 1 0 = cc in absurd (no
 geodetic-number (suc n) φ lon k e =
     let is : suc n ≡ k = cc in
     (is, λ z. nothing (is ∙ z))
-
--- a number that is not 0 is one of the others
-pub another : (numbers : List ℕ) (n k : ℕ) → OneOf (0 ∷ numbers) n → (n ≡ k) × (k ≡ 0 → ⊥) → OneOf numbers k
-another numbers n k (inl e) is = absurd (is .1 (sym (is .0) ∙ e))
-another numbers n k (inr h) is = subst (OneOf numbers) (is .0) h
 
 pub forward-refused : ForwardRefused
 unfolding forwardOf

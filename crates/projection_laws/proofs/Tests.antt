@@ -3,13 +3,14 @@
 -- Assumes nothing.
 use mathlib.Core.Path.{_≡_, refl, ap}
 use mathlib.Core.Bool.{Bool, true, false, _&&_}
-use Prim.Native.Nat.{ℕ, _≤_}
-use lib.IntN.{ℤ, pos, negℤ, natAbs}
+use Prim.Native.Nat.{_≤_}
+use lib.IntN.{ℤ, pos, natAbs}
 use lib.Signed.{_≤ℤ_, _<ℤ_}
-use Rattle.proof_kit.proofs.Order.{abs-lower, abs-upper, le-leZ, lt-leZ}
+use Rattle.proof_kit.proofs.Order.{le-leZ, lt-leZ}
 use Rattle.units.specs.Units.{right-angle, half-turn, plane-limit}
 use Rattle.latitudes.specs.declared.Geodetic.{Geodetic}
-use Rattle.units.specs.Spans.{within, on-plane}
+use Rattle.units.specs.Spans.{on-plane}
+use Rattle.units.proofs.Spans.{size-inside}
 use Rattle.azimuthal_forward.specs.Steps.{near-enough}
 use Rattle.azimuthal_forward.specs.Answer.{on-globe}
 
@@ -21,17 +22,13 @@ second-fails false e = refl
 pub first-fails : {a : Bool} (b : Bool) → a ≡ false → (a && b) ≡ false
 first-fails b e = ap (λ (a : Bool). a && b) e
 
-pub size-within : (n : ℕ) (z : ℤ) → natAbs z ≤ n → within (negℤ (pos n)) (pos n) z ≡ true
-unfolding within
-size-within n z h = rw (le-leZ (abs-lower z h), le-leZ (abs-upper z h))
-
 pub on-globe-by : (φ : Geodetic) (lon : ℤ) → natAbs (φ .0) ≤ right-angle → natAbs lon ≤ half-turn → on-globe φ lon ≡ true
 unfolding on-globe
-on-globe-by φ lon h l = rw (size-within right-angle (φ .0) h, size-within half-turn lon l)
+on-globe-by φ lon h l = rw (size-inside right-angle (φ .0) h, size-inside half-turn lon l)
 
 pub on-plane-by : (E N : ℤ) → natAbs E ≤ plane-limit → natAbs N ≤ plane-limit → on-plane E N ≡ true
 unfolding on-plane
-on-plane-by E N h l = rw (size-within plane-limit E h, size-within plane-limit N l)
+on-plane-by E N h l = rw (size-inside plane-limit E h, size-inside plane-limit N l)
 
 pub near-enough-by : {g : ℤ} → pos 20_000_000 ≤ℤ g → near-enough g ≡ true
 unfolding near-enough

@@ -4,11 +4,10 @@ use Prim.Native.Nat.{ℕ, _≤_}
 use mathlib.Core.Path.{_≡_}
 use mathlib.Core.Bool.{true}
 use mathlib.Core.List.{List, [], _∷_}
-use mathlib.Core.Logic.{_⊎_}
 use lib.IntN.{ℤ, pos, negℤ, natAbs, _+ℤ_, _-ℤ_, _*ℤ_}
 use lib.Signed.{_≤ℤ_, _<ℤ_}
 use Rattle.units.specs.Units.{right-angle, half-turn}
-use Rattle.units.specs.Refusals.{bad-set, out-of-limits, too-far}
+use Rattle.units.specs.Refusals.{bad-set, out-of-limits, too-far, OneOf}
 use Rattle.units.specs.Answers.{accepted, refused}
 use Rattle.latitudes.specs.declared.Geodetic.{Geodetic}
 use Rattle.latitudes.specs.Latitude.{latitude, beta}
@@ -106,11 +105,6 @@ abbrev pub HalfTurnAlike : Type 0
 HalfTurnAlike = (p : Parameters) (φ : Geodetic) → forwardOf p φ (negℤ (pos half-turn)) ≡ forwardOf p φ (pos half-turn)
 
 -- ---- refusals: their exact conditions and order are promised by the calls themselves
-
--- n is one of these numbers
-abbrev pub OneOf : List ℕ → ℕ → Type 0
-OneOf [] n = ⊥
-OneOf (x ∷ xs) n = (n ≡ x) ⊎ OneOf xs n
 
 -- the refusals of a call in whole units; 0 is none
 abbrev pub whole-refusals : List ℕ

@@ -5,20 +5,15 @@ use mathlib.Core.Bool.{true}
 use Prim.Native.Nat.{ℕ, zero, suc}
 use native.Mathlib.Omega.{arith}
 use lib.IntN.{ℤ}
-use Rattle.units.specs.Refusals.{unless, firstOf}
+use Rattle.units.specs.Refusals.{unless}
 use Rattle.units.specs.Answers.{answered}
-use Rattle.units.proofs.Chains.{link-passed}
+use Rattle.units.proofs.Chains.{link-passed, both-passed}
 use Rattle.latitudes.specs.declared.Geodetic.{Geodetic}
 use Rattle.parameters.specs.declared.Parameters.{Parameters}
 use Rattle.parameters.specs.ParameterSet.{setRefusal}
 use Rattle.azimuthal_forward.specs.declared.PlaneAnswer.the-variants.{Plane, Refused}
 use Rattle.azimuthal_forward.specs.Steps.{near-enough}
 use Rattle.azimuthal_forward.specs.Answer.{on-globe, nearness, forwardFar, forwardRefusal, eastingOf, northingOf, forwardOf}
-
--- two chains, one after the other, give 0 where both do
-pub both-passed : (m n : ℕ) → firstOf m n ≡ 0 → (m ≡ 0) × (n ≡ 0)
-both-passed zero n h = (refl, h)
-both-passed (suc m) n h = let z : ⊥ = omega arith in absurd z
 
 -- an answer with two values has the number 0, and they are its values
 pub plane-parts : (n : ℕ) (E N E′ N′ : ℤ) → answered Refused n (Plane E N) ≡ Plane E′ N′ → (n ≡ 0) × (E ≡ E′) × (N ≡ N′)

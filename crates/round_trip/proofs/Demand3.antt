@@ -2,7 +2,7 @@
 -- The forward answer gives the shifts, the vectors' half of the proof shows that the inverse accepts them, and the angles' half bounds its answer.
 -- Assumes nothing.
 use mathlib.Core.Path.{_≡_, refl, sym, ap, ap₂, _∙_, subst}
-use mathlib.Core.Bool.{true}
+use mathlib.Core.Bool.{true, _&&_}
 use mathlib.Core.List.{[], _∷_}
 use Prim.Native.Nat.{ℕ, suc, _*_, _<_, _≤_}
 use native.Mathlib.Nat.{le-trans, le-of-mul-le-mul-left, mul-le-mul-left}
@@ -24,7 +24,7 @@ use Rattle.azimuthal_forward.specs.Steps.{c, dE, dN, near-enough}
 use Rattle.azimuthal_forward.specs.Answer.{nearness, eastingOf, northingOf, forwardOf}
 use Rattle.azimuthal_inverse.specs.Steps.{G as G′, K, on-map}
 use Rattle.azimuthal_inverse.specs.Answer.{answerFrom, inverseOf}
-use Rattle.units.proofs.Spans.{Between}
+use Rattle.units.proofs.Spans.{Between, size-inside}
 use Rattle.parameters.proofs.AcceptedSet.{accepted, lat0-size}
 use Rattle.constants.proofs.ConstantsLaws.{sound}
 use Rattle.azimuthal_inverse.proofs.AnswerLaws.{inverse-on-plane}
@@ -33,7 +33,7 @@ use Rattle.round_trip.specs.RoundTrip.{sharp-latitude-bound, sharp-gap-h
 use Rattle.round_trip.specs.RoundTrip.{CloseTo, RoundTripAt, SharpRoundTrip, Demand3, thereAndBack, MeetsDemand3}
 use Rattle.round_trip.proofs.Numerals.{unit}
 use Rattle.round_trip.proofs.AcceptedAnswer.{AcceptedAnswer, accepted-answer}
-use Rattle.round_trip.proofs.Limits.{circle-of, within-limits, forward-on-plane}
+use Rattle.round_trip.proofs.Limits.{circle-of, forward-on-plane}
 use Rattle.round_trip.proofs.Steps.{Given, close-steps}
 use Rattle.round_trip.proofs.Answer.{Centred, Answer, answer}
 use Rattle.round_trip.proofs.Angles.{latitude-bound, longitude-bound}
@@ -68,7 +68,7 @@ module _ (p : Parameters) (φ : Geodetic) (lon : ℤ) where
   -- a shift of at most twice the radius is on the map
   on-axis : (r d : ℤ) → Between r 90_909_091 1_080_000_000 → natAbs d ≤ 2 * natAbs r → within (negℤ (pos 2 *ℤ r)) (pos 2 *ℤ r) d ≡ true
   on-axis r d between h =
-      subst (λ (x : ℤ). within (negℤ (pos 2 *ℤ x)) (pos 2 *ℤ x) d ≡ true) (between .natural) (within-limits (2 * natAbs r) d h)
+      subst (λ (x : ℤ). within (negℤ (pos 2 *ℤ x)) (pos 2 *ℤ x) d ≡ true) (between .natural) (size-inside (2 * natAbs r) d h)
 
   -- both shifts are
   shifts-on-map : Given k φ Δ → on-map k eastward northward ≡ true

@@ -3,7 +3,7 @@
 -- 2 H is the truth. A shift is then at most three radii, and with the false origin well within the limits.
 -- Assumes nothing.
 use mathlib.Core.Path.{_≡_, sym, ap₂, subst}
-use mathlib.Core.Bool.{true}
+use mathlib.Core.Bool.{true, _&&_}
 use mathlib.Core.List.{[], _∷_}
 use Prim.Native.Nat.{ℕ, _+_, _*_, _<_, _≤_}
 use native.Mathlib.Nat.{le-refl, le-trans, mul-le-mul}
@@ -12,7 +12,7 @@ use lib.Dec.{lit<, lit≤}
 use lib.IntN.{ℤ, pos, negℤ, natAbs, _+ℤ_, _-ℤ_, _*ℤ_}
 use lib.Signed.{_≤ℤ_}
 use Rattle.proof_kit.proofs.Certificate.{certify, nonneg}
-use Rattle.proof_kit.proofs.Order.{order, pos-abs, pos-≤, ≤ℤ-trans, leZ-true, le-leZ, abs-lower, abs-upper}
+use Rattle.proof_kit.proofs.Order.{order, pos-abs, pos-≤, ≤ℤ-trans, leZ-true, abs-upper}
 use Rattle.proof_kit.proofs.Ring.{quote}
 use Rattle.proof_kit.proofs.Size.{abs-by, abs-mul-le, abs-add-le, square-le}
 use Rattle.integers.specs.Near.{near}
@@ -23,6 +23,7 @@ use Rattle.latitudes.specs.declared.Geodetic.{Geodetic}
 use Rattle.parameters.specs.declared.Parameters.{Parameters}
 use Rattle.constants.specs.declared.Constants.{Constants}
 use Rattle.units.specs.Spans.{within, on-plane}
+use Rattle.units.proofs.Spans.{size-inside}
 use Rattle.parameters.specs.ParameterSet.{setRefusal}
 use Rattle.latitudes.specs.Latitude.{beta}
 use Rattle.constants.specs.Derived.{β0, S0, C0, constantsOf}
@@ -140,14 +141,9 @@ module _ (k : Constants) (sound-k : Sound k) (centre : OnCircle (k .s0) (k .c0))
 
 -- ---- the answer
 
--- a number within ±n passes the test
-pub within-limits : (n : ℕ) (z : ℤ) → natAbs z ≤ n → within (negℤ (pos n)) (pos n) z ≡ true
-unfolding within
-within-limits n z h = rw (le-leZ (abs-lower z h), le-leZ (abs-upper z h))
-
 -- the false origin of an accepted set and such a shift stay within the limits
 coordinate : (F d : ℤ) → natAbs F ≤ 1_000_000_000 → natAbs d ≤ 3_240_000_000 → within (negℤ (pos 5_000_000_000)) (pos 5_000_000_000) (F +ℤ d) ≡ true
-coordinate F d F-most d-most = within-limits 5_000_000_000 (F +ℤ d) (le-trans (abs-add-le F d F-most d-most) (lit≤ tt))
+coordinate F d F-most d-most = size-inside 5_000_000_000 (F +ℤ d) (le-trans (abs-add-le F d F-most d-most) (lit≤ tt))
 
 -- the easting and the northing that the steps compute
 steps-on-plane : (p : Parameters) (φ : Geodetic) (lon : ℤ) → setRefusal p ≡ 0 → near-enough (nearness p φ lon) ≡ true →

@@ -1,6 +1,9 @@
 -- Document 01, "Refusal numbers": the numbers by name, and chains of tests of which the first that fails gives its number.
 use Prim.Native.Nat.{ℕ, zero, suc}
 use mathlib.Core.Bool.{Bool, true, false}
+use mathlib.Core.List.{List, [], _∷_}
+use mathlib.Core.Logic.{_⊎_}
+use mathlib.Core.Path.{_≡_}
 
 -- "parameter set outside its table"
 abbrev pub bad-set : ℕ
@@ -35,3 +38,8 @@ unless false number next = number
 abbrev pub firstOf : ℕ → ℕ → ℕ
 firstOf zero next = next
 firstOf (suc n) next = suc n
+
+-- n is one of these numbers
+abbrev pub OneOf : List ℕ → ℕ → Type 0
+OneOf [] n = ⊥
+OneOf (x ∷ xs) n = (n ≡ x) ⊎ OneOf xs n

@@ -1,5 +1,6 @@
 -- `gaps::gap` meets its contract: on one side of 0 the sum of the two excesses is the one that is not 0, which is the size of the
 -- difference; on both sides it is the sum of the sizes, of which one is below 2^63. Assumes nothing.
+use Prim.Native.Nat.{_+_, _-_}
 use borrow.Author.Needs.{needs}
 use mathlib.Core.Path.{_≡_, ap, ap₂, _∙_}
 use mathlib.Core.Bool.{Bool}
