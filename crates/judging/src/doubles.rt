@@ -32,12 +32,6 @@ fn are_equal(a: u64, b: u64, c: u64, d: u64) -> bool
     c == d
 }
 
-pub fn are_both(first: bool, second: bool) -> bool
-    ensures { λ r. ⌜ r ≡ (first && second) ⌝ }
-{
-    if first { second } else { false }
-}
-
 fn wide(mark: u8) -> u64
     ensures { λ r. ⌜ r ≡ mark ⌝ }
 {

@@ -11,8 +11,10 @@ use points::pairs::plane_row;
 use points::single::forward_pair;
 use points::single::inverse_pair;
 use sine_table::Table;
+use units::both;
 use units::refusals::LONG_LISTS;
 use units::refusals::UNEQUAL_LISTS;
+use units::refusals::unless;
 ghost use mathlib.Core.Path.{_≡_};
 ghost use lib.ListN.{length};
 ghost use Rattle.constants.specs.Derived.{Prepared};
@@ -31,22 +33,8 @@ pub enum ListAnswer {
 fn length_refusal(a: usize, b: usize, c: usize, d: usize, e: usize) -> u8
     ensures { λ r. ⌜ r ≡ lengthRefusal a b c d e ⌝ }
 {
-    if b != a {
-        return UNEQUAL_LISTS;
-    }
-    if c != a {
-        return UNEQUAL_LISTS;
-    }
-    if d != a {
-        return UNEQUAL_LISTS;
-    }
-    if e != a {
-        return UNEQUAL_LISTS;
-    }
-    if a > LONGEST {
-        return LONG_LISTS;
-    }
-    0
+    let equal = both(b == a, both(c == a, both(d == a, e == a)));
+    unless(equal, UNEQUAL_LISTS, unless(a <= LONGEST, LONG_LISTS, 0))
 }
 
 // A point of a list, from degrees to metres or back.

@@ -2,7 +2,6 @@
 // looked at after the call. It gives back its verdict.
 use crate::names::name;
 use judging::doubles::Digest;
-use judging::doubles::are_both;
 use judging::doubles::are_same;
 use judging::doubles::digest_of;
 use judging::doubles::is_told;
@@ -17,6 +16,7 @@ use printing::verdict;
 use printing::words;
 use printing::words::word;
 use std::num::nearest_u64_to_f64;
+use units::both;
 ghost use mathlib.Core.Path.{_≡_};
 ghost use Prim.Native.Nat.{_≤_};
 ghost use lib.ListN.{length};
@@ -189,7 +189,7 @@ pub(crate) fn list_row(
     show_digest(digest);
     word(words::EXPECTED);
     show_digest(right);
-    verdict(are_both(counted, are_same(digest, right)))
+    verdict(both(counted, are_same(digest, right)))
 }
 
 // Lists of these lengths, refused with the outputs as they were.
@@ -213,5 +213,5 @@ pub(crate) fn list_refused(
     asked(k, forward, answer);
     refusal(number);
     word(words::UNTOUCHED);
-    verdict(are_both(is_told(answer, number, 0), are_same(digest, untouched())))
+    verdict(both(is_told(answer, number, 0), are_same(digest, untouched())))
 }

@@ -7,6 +7,7 @@ use floats::is_latitude;
 use floats::is_longitude;
 use floats::is_plane;
 use floats::mas_to_degrees;
+use units::both;
 ghost use mathlib.Core.Path.{_≡_};
 ghost use Rattle.points.specs.Pairs.{areFinite, withinGlobe, withinPlane, inMetres, inDegrees, plane-row, geodetic-row};
 
@@ -45,30 +46,21 @@ pub struct Row {
 pub fn are_finite(x: f64, y: f64) -> bool
     ensures { λ r. ⌜ r ≡ areFinite x y ⌝ }
 {
-    if !is_finite(x) {
-        return false;
-    }
-    is_finite(y)
+    both(is_finite(x), is_finite(y))
 }
 
 // Latitude within ±90° and longitude within ±180°.
 pub fn is_within_globe(at: GeodeticPair) -> bool
     ensures { λ r. ⌜ r ≡ withinGlobe at ⌝ }
 {
-    if !is_latitude(at.latitude) {
-        return false;
-    }
-    is_longitude(at.longitude)
+    both(is_latitude(at.latitude), is_longitude(at.longitude))
 }
 
 // Both within ±50,000,000 m.
 pub fn is_within_plane(at: PlanePair) -> bool
     ensures { λ r. ⌜ r ≡ withinPlane at ⌝ }
 {
-    if !is_plane(at.first) {
-        return false;
-    }
-    is_plane(at.second)
+    both(is_plane(at.first), is_plane(at.second))
 }
 
 // The whole-unit answer in metres.

@@ -45,6 +45,13 @@ pub const PLANE_LEAST: i64 = -5_000_000_000;
 
 pub const PLANE_MOST: i64 = 5_000_000_000;
 
+// Whether both tests are passed.
+pub fn both(first: bool, second: bool) -> bool
+    ensures { λ r. ⌜ r ≡ (first && second) ⌝ }
+{
+    if first { second } else { false }
+}
+
 // Whether z is from low to high, both counted.
 pub fn is_within(low: i64, high: i64, z: i64) -> bool
     ensures { λ r. ⌜ r ≡ within low high z ⌝ }
@@ -59,10 +66,7 @@ pub fn is_within(low: i64, high: i64, z: i64) -> bool
 pub fn are_within(low: i64, high: i64, x: i64, least: i64, most: i64, y: i64) -> bool
     ensures { λ r. ⌜ r ≡ (within low high x && within least most y) ⌝ }
 {
-    if !is_within(low, high, x) {
-        return false;
-    }
-    is_within(least, most, y)
+    both(is_within(low, high, x), is_within(least, most, y))
 }
 
 // Whether easting and northing are within ±50,000,000 m.

@@ -1,5 +1,6 @@
 -- `fill` meets its contract. The invariant: up to i each of the three lists has the points, and from i on what it had. Assumes nothing.
 use mathlib.Core.Path.{_≡_, refl}
+use mathlib.Core.List.{List}
 use Prim.Native.Nat.{ℕ, _≤_, _-_}
 use native.Mathlib.Nat.{le-antisymm}
 use native.Mathlib.Omega.{arith}
@@ -33,33 +34,23 @@ mark-of r = r .mark
 loop-holds : tie.Need-loop-holds Inv-loop μ-loop
 loop-holds c = (omega arith, refl, refl, refl)
 
--- the three lists at the head of the loop
-leading-so-far :
-    (c : tie.At-loop Inv-loop μ-loop) →
-    let start = c .before .before .before .before .before .before in
-    Filling first-of (rowOf (start .args .forward) (start .args .p)) (start .args .xs .now) (start .args .ys .now) (start .args .leading .now)
-    (c .loop .leading) (c .loop .i)
-leading-so-far c =
-    let start = c .before .before .before .before .before .before in
-    record { equal = start .pre .1 .0; room = start .pre .1 .1; so-far = c .loop .inv .1 }
+-- where the code stands at the head of the loop, and what one of the three lists is there
+abbrev start : tie.At-loop Inv-loop μ-loop → tie.Start Inv-loop μ-loop
+start c = c .before .before .before .before .before .before
 
-trailing-so-far :
-    (c : tie.At-loop Inv-loop μ-loop) →
-    let start = c .before .before .before .before .before .before in
-    Filling second-of (rowOf (start .args .forward) (start .args .p)) (start .args .xs .now) (start .args .ys .now) (start .args .trailing .now)
-    (c .loop .trailing) (c .loop .i)
-trailing-so-far c =
-    let start = c .before .before .before .before .before .before in
-    record { equal = start .pre .1 .0; room = start .pre .1 .2; so-far = c .loop .inv .2 }
+abbrev SoFar : tie.At-loop Inv-loop μ-loop → {A : Type 0} → (Row → A) → List A → List A → Type 0
+SoFar c of before now =
+    let a = start c .args in
+    Filling of (rowOf (a .forward) (a .p)) (a .xs .now) (a .ys .now) before now (c .loop .i)
 
-marks-so-far :
-    (c : tie.At-loop Inv-loop μ-loop) →
-    let start = c .before .before .before .before .before .before in
-    Filling mark-of (rowOf (start .args .forward) (start .args .p)) (start .args .xs .now) (start .args .ys .now) (start .args .marks .now)
-    (c .loop .marks) (c .loop .i)
-marks-so-far c =
-    let start = c .before .before .before .before .before .before in
-    record { equal = start .pre .1 .0; room = start .pre .1 .3; so-far = c .loop .inv .3 }
+leading-so-far : (c : tie.At-loop Inv-loop μ-loop) → SoFar c first-of (start c .args .leading .now) (c .loop .leading)
+leading-so-far c = record { equal = start c .pre .1 .0; room = start c .pre .1 .1; so-far = c .loop .inv .1 }
+
+trailing-so-far : (c : tie.At-loop Inv-loop μ-loop) → SoFar c second-of (start c .args .trailing .now) (c .loop .trailing)
+trailing-so-far c = record { equal = start c .pre .1 .0; room = start c .pre .1 .2; so-far = c .loop .inv .2 }
+
+marks-so-far : (c : tie.At-loop Inv-loop μ-loop) → SoFar c mark-of (start c .args .marks .now) (c .loop .marks)
+marks-so-far c = record { equal = start c .pre .1 .0; room = start c .pre .1 .3; so-far = c .loop .inv .3 }
 
 mul-point : tie.Need-mul-point Inv-loop μ-loop
 mul-point c = omega arith

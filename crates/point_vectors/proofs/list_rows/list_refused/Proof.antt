@@ -30,8 +30,8 @@ untouched-requires c κs = search needs
 are-same-requires : tie.Need-are-same-requires
 are-same-requires c κs = search needs
 
-are-both-requires : tie.Need-are-both-requires
-are-both-requires c κs = search needs
+both-requires : tie.Need-both-requires
+both-requires c κs = search needs
 
 verdict-requires : tie.Need-verdict-requires
 verdict-requires c κs = search needs
@@ -44,7 +44,7 @@ returns c =
     let made = told .before .before .before .before .before in
     let a = made .before .args in
     let outcome = outcomeOf (a .p) (a .forward) (a .a) (a .b) (a .c) (a .d) (a .e) zeroFloat zeroFloat in
-    refused-by (made .call .result) outcome (c .verdict .ensures ∙ c .before .are-both .ensures) (made .call .ensures) (a .number)
+    refused-by (made .call .result) outcome (c .verdict .ensures ∙ c .before .both .ensures) (made .call .ensures) (a .number)
     (told .is-told .ensures)
     (compared .are-same .ensures)
     (compared .before .untouched .ensures)
@@ -60,6 +60,6 @@ list-refused-spec =
     is-told-requires
     untouched-requires
     are-same-requires
-    are-both-requires
+    both-requires
     verdict-requires
     returns)

@@ -33,8 +33,8 @@ show-digest-requires-2 c κs = search needs
 are-same-requires : tie.Need-are-same-requires
 are-same-requires c κs = search needs
 
-are-both-requires : tie.Need-are-both-requires
-are-both-requires c κs = search needs
+both-requires : tie.Need-both-requires
+both-requires c κs = search needs
 
 verdict-requires : tie.Need-verdict-requires
 verdict-requires c κs = search needs
@@ -50,7 +50,7 @@ returns c =
     let is =
     made .call .ensures ∙ ap (λ (p : Parameters). outcomeOf p (a .forward) (a .n) (a .n) (a .n) (a .n) (a .n) (a .x-step) (a .y-step)) (made .before .etrs-laea .ensures)
     in
-    counted-by (made .call .result) outcome (c .verdict .ensures ∙ c .before .are-both .ensures) is (a .n) (a .right)
+    counted-by (made .call .result) outcome (c .verdict .ensures ∙ c .before .both .ensures) is (a .n) (a .right)
     (counted .count-row .ensures)
     (compared .are-same .ensures)
 
@@ -66,6 +66,6 @@ list-row-spec =
     word-requires-2
     show-digest-requires-2
     are-same-requires
-    are-both-requires
+    both-requires
     verdict-requires
     returns)
