@@ -18,7 +18,7 @@ use Rattle.integers.specs.Root.{root}
 use Rattle.integers.specs.Greatest.{greatest}
 use Rattle.integers.proofs.Greatest.{greatest-le}
 use Rattle.units.specs.Units.{right-angle, half-turn}
-use Rattle.trig.specs.Angle.{under, angle}
+use Rattle.angles.specs.Angle.{under, angle}
 use Rattle.azimuthal_inverse.specs.declared.SpherePoint.{SpherePoint}
 use Rattle.azimuthal_inverse.specs.Steps.{SmallPoint, latitudeOf, longitudeOf}
 

@@ -8,7 +8,7 @@ use Rattle.units.specs.declared.answers.Told.{Told}
 use Rattle.units.specs.Answers.{accepted, refused, answered}
 use Rattle.latitudes.specs.declared.Geodetic.{Geodetic}
 use Rattle.latitudes.specs.declared.AuthalicSeries.{AuthalicSeries}
-use Rattle.latitudes.specs.Latitude.{geodetic}
+use Rattle.geodetic_search.specs.Reverse.{geodetic}
 use Rattle.parameters.specs.declared.Parameters.{Parameters}
 use Rattle.parameters.specs.ParameterSet.{setRefusal}
 use Rattle.constants.specs.declared.Constants.{Constants}

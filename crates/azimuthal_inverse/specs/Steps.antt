@@ -7,7 +7,7 @@ use Rattle.integers.specs.Near.{near, signed}
 use Rattle.integers.specs.Root.{root}
 use Rattle.units.specs.Units.{unit, U, half-turn}
 use Rattle.units.specs.Spans.{within, same}
-use Rattle.trig.specs.Angle.{angle}
+use Rattle.angles.specs.Angle.{angle}
 use Rattle.latitudes.specs.declared.Authalic.{Authalic}
 use Rattle.constants.specs.declared.Constants.{Constants}
 use Rattle.azimuthal_forward.specs.Steps.{H}

@@ -1,4 +1,5 @@
 // From easting and northing back to geodetic latitude and longitude, in whole units.
+use angles::angle;
 use azimuthal_forward::LEAST_NEARNESS;
 use azimuthal_forward::scale;
 use billionths::difference;
@@ -7,6 +8,7 @@ use billionths::quotient;
 use billionths::sum;
 use constants::Constants;
 use constants::constants_of;
+use geodetic_search::to_geodetic;
 use integers::magnitude;
 use integers::near;
 use integers::root;
@@ -14,10 +16,8 @@ use integers::signed;
 use latitudes::Authalic;
 use latitudes::AuthalicSeries;
 use latitudes::Geodetic;
-use latitudes::to_geodetic;
 use parameters::Parameters;
 use sine_table::Table;
-use trig::angle;
 use units::HALF_TURN;
 use units::UNIT;
 use units::answers::Told;

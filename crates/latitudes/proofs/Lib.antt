@@ -1,3 +1,2 @@
-mod Reading
+pub mod Reading
 pub mod AuthalicLaws
-pub mod GeodeticLaws

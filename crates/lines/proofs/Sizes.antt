@@ -17,7 +17,7 @@ use Rattle.units.specs.Units.{half-turn}
 use Rattle.units.specs.Spans.{on-plane, wrapped}
 use Rattle.units.proofs.Spans.{wrapped-range}
 use Rattle.latitudes.specs.declared.Geodetic.{Geodetic}
-use Rattle.latitudes.proofs.GeodeticLaws.{geodetic-size}
+use Rattle.geodetic_search.proofs.GeodeticLaws.{geodetic-size}
 use Rattle.parameters.specs.ParameterSet.{etrsLaea}
 use Rattle.constants.specs.declared.Constants.{Constants}
 use Rattle.constants.specs.Derived.{constantsOf}

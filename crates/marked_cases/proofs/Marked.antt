@@ -14,8 +14,8 @@ use Rattle.floats.specs.Conversion.{wholeOf}
 use Rattle.sine_table.specs.Table.{entry}
 use Rattle.sine_table.proofs.Laws.{entry-1, entry-5399}
 use Rattle.trig.specs.Sine.{between, first-quarter, first-half, one-turn, sine, cosine}
-use Rattle.trig.specs.Angle.{under, angle}
-use Rattle.trig.proofs.Angles.{angle-none, angle-some, angle-edge}
+use Rattle.angles.specs.Angle.{under, angle}
+use Rattle.angles.proofs.Angles.{angle-none, angle-some, angle-edge}
 use Rattle.marked_cases.specs.Cases.{All, P, AllMarked}
 use Rattle.marked_cases.proofs.Sphere.{sphere-quarter}
 

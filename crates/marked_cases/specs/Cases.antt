@@ -9,7 +9,7 @@ use Rattle.units.specs.Units.{right-angle, degree, metre}
 use Rattle.floats.specs.Conversion.{wholeOf}
 use Rattle.sine_table.specs.Table.{entry}
 use Rattle.trig.specs.Sine.{sine}
-use Rattle.trig.specs.Angle.{angle}
+use Rattle.angles.specs.Angle.{angle}
 use Rattle.latitudes.specs.Latitude.{latitude}
 use Rattle.parameters.specs.declared.Parameters.{Parameters}
 use Rattle.parameters.specs.ParameterSet.{setOf}

@@ -24,7 +24,7 @@ use Rattle.units.specs.Refusals.{unless}
 use Rattle.units.specs.declared.answers.Told.{Told}
 use Rattle.units.specs.Answers.{accepted, refused, answered}
 use Rattle.parameters.specs.ParameterSet.{setRefusal}
-use Rattle.latitudes.specs.Latitude.{geodetic}
+use Rattle.geodetic_search.specs.Reverse.{geodetic}
 use Rattle.constants.specs.Derived.{constantsOf}
 use Rattle.azimuthal_forward.specs.Steps.{b, c, u, v, w, G, dE, dN}
 use Rattle.azimuthal_forward.specs.Answer.{on-globe, nearness, forwardFar, forwardRefusal, eastingOf, northingOf, forwardOf}
@@ -33,7 +33,7 @@ use Rattle.azimuthal_inverse.specs.Answer.{latitudeFrom, longitudeFrom, inverse
 use Rattle.azimuthal_inverse.specs.Answer.{geodetic-told, inverseOf, inverseTold}
 use Rattle.azimuthal_inverse.proofs.AnswerLaws.{inverse-tells}
 use Rattle.parameters.proofs.AcceptedSet.{Accepted, accepted as accepted-set, lat0-size}
-use Rattle.latitudes.proofs.GeodeticLaws.{geodetic-size}
+use Rattle.geodetic_search.proofs.GeodeticLaws.{geodetic-size}
 use Rattle.azimuthal_inverse.proofs.AngleLaws.{longitude-size}
 use Rattle.units.proofs.Spans.{wrapped-range}
 use Rattle.units.proofs.Chains.{both-passed}

@@ -32,7 +32,8 @@ use Rattle.azimuthal_inverse.specs.declared.SpherePoint.{SpherePoint}
 use Rattle.azimuthal_inverse.specs.declared.GeodeticAnswer.the-variants.{Position}
 use Rattle.units.specs.Spans.{same, within, wrapped}
 use Rattle.latitudes.proofs.AuthalicLaws.{betaMas, beta-slope, beta-size}
-use Rattle.latitudes.specs.Latitude.{SmallSeries, beta, geodetic}
+use Rattle.latitudes.specs.Latitude.{SmallSeries, beta}
+use Rattle.geodetic_search.specs.Reverse.{geodetic}
 use Rattle.azimuthal_forward.specs.Steps.{H, near-enough}
 use Rattle.azimuthal_inverse.specs.Steps.{versineOf, G, up, level, zOf, fOf, pointOf, X, Y, K, found, latitudeOf, longitudeOf, at-origin, on-map}
 use Rattle.azimuthal_inverse.specs.Answer.{answerFrom}

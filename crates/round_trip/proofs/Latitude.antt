@@ -22,7 +22,8 @@ use Rattle.latitudes.specs.declared.Geodetic.{Geodetic}
 use Rattle.latitudes.proofs.AuthalicLaws.{mas, beta-slope}
 use Rattle.round_trip.specs.RoundTrip.{sharp-latitude-bound as bound}
 use Rattle.round_trip.proofs.Numerals.{Eβ}
-use Rattle.latitudes.specs.Latitude.{SmallSeries, beta, from-south-pole, not-above, geodetic}
+use Rattle.latitudes.specs.Latitude.{SmallSeries, beta}
+use Rattle.geodetic_search.specs.Reverse.{from-south-pole, not-above, geodetic}
 
 -- ---- two latitudes n mas apart, whose β are x and y
 

@@ -20,10 +20,10 @@ use Rattle.integers.specs.Greatest.{greatest}
 use Rattle.integers.proofs.Greatest.{greatest-le, greatest-passes, greatest-ge}
 use Rattle.units.specs.Units.{right-angle, half-turn}
 use Rattle.trig.specs.Sine.{sine, cosine}
-use Rattle.trig.specs.Angle.{under, angle}
+use Rattle.angles.specs.Angle.{under, angle}
 use Rattle.trig.proofs.Interface.{sine-odd, sine-supplement, sine-quarter-turn, cosine-quarter-turn, cosine-even, cosine-complement}
 use Rattle.trig.proofs.Interface.{sine-nonneg, cosine-nonneg, sine-mono, cosine-anti}
-use Rattle.trig.proofs.Angles.{under-zero, under-falls, angle-none, angle-some}
+use Rattle.angles.proofs.Angles.{under-zero, under-falls, angle-none, angle-some}
 use Rattle.round_trip.proofs.Circle.{pos-minus, sine-complement, cosine-supplement, sine-before, cosine-before}
 
 -- on which side of the direction θ the direction (f, g) lies

@@ -1,5 +1,4 @@
-mod Quarter
-mod Symmetry
+pub mod Quarter
+pub mod Symmetry
 pub mod Turns
 pub mod Interface
-pub mod Angles

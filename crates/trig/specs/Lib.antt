@@ -1,3 +1,1 @@
 pub mod Sine
-pub mod Angle
-pub mod Estimate

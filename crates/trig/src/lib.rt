@@ -1,6 +1,5 @@
-// Sine, cosine and angle of document 01, on whole numbers: angles in milliarcseconds (mas), sines in
+// Sine and cosine of document 01, on whole numbers: angles in milliarcseconds (mas), sines in
 // billionths. Every function takes the table lent: see sine_table::table.
-use integers::excess;
 use integers::magnitude;
 use integers::nearest;
 use integers::signed;
@@ -13,19 +12,15 @@ use units::RIGHT_ANGLE;
 ghost use mathlib.Core.Path.{_≡_};
 ghost use Prim.Native.Nat.{_<_, _≤_, _^_};
 ghost use lib.IntN.{natAbs};
-ghost use Rattle.integers.specs.Greatest.{greatest, bracketed};
-ghost use Rattle.integers.specs.Search.{Span, About};
 ghost use Rattle.sine_table.specs.Table.{IsTable, entry};
 ghost use Rattle.units.specs.Units.{right-angle, half-turn};
 ghost use Rattle.trig.specs.Sine.{quarter-minutes, first-quarter, first-half, sine, cosine};
-ghost use Rattle.trig.specs.Estimate.{whole-part, part-limit};
-ghost use Rattle.trig.specs.Angle.{under, angle, angle-limit, Searchable};
 
 // The minutes from 0 to 90°.
-const QUARTER_MINUTES: u64 = 5_400;
+pub const QUARTER_MINUTES: u64 = 5_400;
 
 // T[k].
-fn minute_sine(t: &Table, k: u64) -> u64
+pub fn minute_sine(t: &Table, k: u64) -> u64
     requires { ⌜ IsTable (now t) × (k ≤ quarter-minutes) ⌝ }
     ensures { λ r. ⌜ r ≡ entry k ⌝ }
 {
@@ -33,7 +28,7 @@ fn minute_sine(t: &Table, k: u64) -> u64
 }
 
 // The sine of an angle from 0 to 90°.
-fn first_quarter(t: &Table, theta: u64) -> u64
+pub fn first_quarter(t: &Table, theta: u64) -> u64
     requires { ⌜ IsTable (now t) × (theta ≤ right-angle) ⌝ }
     ensures { λ r. ⌜ r ≡ first-quarter theta ⌝ }
 {
@@ -78,142 +73,4 @@ pub fn cosine(t: &Table, theta: i64) -> i64
     ensures { λ r. ⌜ r ≡ cosine theta ⌝ }
 {
     sine(t, LATITUDE_MOST - theta)
-}
-
-// Whether sine(θ)·p is not above cosine(θ)·q.
-fn is_under(t: &Table, p: u64, q: u64, theta: u64) -> bool
-    requires { ⌜ Searchable (now t) p q × (theta ≤ right-angle) ⌝ }
-    ensures { λ r. ⌜ r ≡ under p q theta ⌝ }
-{
-    first_quarter(t, theta) * p <= first_quarter(t, RIGHT_ANGLE - theta) * q
-}
-
-// The greatest angle up to `high` that is under, where `low` is: halves the span until one is left.
-fn search(t: &Table, p: u64, q: u64, low: u64, high: u64) -> u64
-    requires { ⌜ Searchable (now t) p q × Span (under p q) right-angle low high ⌝ }
-    ensures { λ r. ⌜ r ≡ greatest (under p q) high ⌝ }
-{
-    if low == high {
-        return low;
-    }
-    let mid = high - (high - low) / 2;
-    if is_under(t, p, q, mid) {
-        search(t, p, q, mid, high)
-    } else {
-        search(t, p, q, low, mid - 1)
-    }
-}
-
-// Whether the greatest angle that is under lies from `low` to `high`: `low` is under, and the angle
-// after `high` is not or is past 90°.
-fn is_bracketed(t: &Table, p: u64, q: u64, low: u64, high: u64) -> bool
-    requires { ⌜ Searchable (now t) p q × (low ≤ right-angle) × (high ≤ right-angle) ⌝ }
-    ensures { λ r. ⌜ r ≡ bracketed (under p q) right-angle low high ⌝ }
-{
-    if !is_under(t, p, q, low) {
-        return false;
-    }
-    if high == RIGHT_ANGLE {
-        return true;
-    }
-    !is_under(t, p, q, high + 1)
-}
-
-// The margin that is tried after another is WIDENING times it and FIRST_MARGIN more.
-pub const WIDENING: u64 = 16;
-
-pub const FIRST_MARGIN: u64 = 4;
-
-// The greatest angle that is under: searches the span of this margin about the estimate, or where
-// that does not hold it a wider one, up to the whole quarter.
-fn search_near(t: &Table, p: u64, q: u64, estimate: u64, margin: u64) -> u64
-    requires { ⌜ Searchable (now t) p q × About right-angle estimate margin ⌝ }
-    ensures { λ r. ⌜ r ≡ greatest (under p q) right-angle ⌝ }
-{
-    let low = excess(estimate, margin);
-    let high = RIGHT_ANGLE - excess(RIGHT_ANGLE, estimate + margin);
-    if is_bracketed(t, p, q, low, high) {
-        return search(t, p, q, low, high);
-    }
-    search_near(t, p, q, estimate, WIDENING * margin + FIRST_MARGIN)
-}
-
-// Tangents from 0 to 1 are counted in parts of 2^14.
-const WHOLE: u64 = 16_384;
-
-// The part x/2^14 of a.
-fn part(a: u64, x: u64) -> u64
-    requires { ⌜ (a ≤ part-limit) × (x ≤ whole-part) ⌝ }
-    ensures { λ r. ⌜ r ≤ a ⌝ }
-{
-    a * x / WHOLE
-}
-
-// lower/upper in parts of 2^14.
-fn ratio(lower: u64, upper: u64) -> u64
-    requires { ⌜ (lower ≤ upper) × (upper ≤ angle-limit) ⌝ }
-    ensures { λ r. ⌜ r ≤ whole-part ⌝ }
-{
-    lower * WHOLE / (upper + 1)
-}
-
-// The coefficients of x, x³ and x⁵ in x − x³/3 + x⁵/5, fitted to 0 to 45°, in 1,024ths of a minute.
-const FIRST: u64 = 3_503_912;
-
-const THIRD: u64 = 1_016_263;
-
-const FIFTH: u64 = 279_293;
-
-const MINUTE_PARTS: u64 = 1_024;
-
-// The angle from 0 to 45° whose tangent is x/2^14, to within 4 minutes.
-fn arctangent_minutes(x: u64) -> u64
-    requires { ⌜ x ≤ whole-part ⌝ }
-    ensures { λ k. ⌜ k ≤ quarter-minutes ⌝ }
-{
-    let square = part(x, x);
-    part(FIRST - part(THIRD - part(FIFTH, square), square), x) / MINUTE_PARTS
-}
-
-// angle(p, q) to within 4 minutes.
-fn estimate_minutes(p: u64, q: u64) -> u64
-    requires { ⌜ (p ≤ angle-limit) × (q ≤ angle-limit) ⌝ }
-    ensures { λ k. ⌜ k ≤ quarter-minutes ⌝ }
-{
-    let lower = p - excess(p, q);
-    let upper = q + excess(p, q);
-    let k = arctangent_minutes(ratio(lower, upper));
-    if q <= p { k } else { QUARTER_MINUTES - k }
-}
-
-// One radian, and ten minutes, in mas.
-const RADIAN: u64 = 206_264_806;
-
-const TEN_MINUTES: u64 = 600_000;
-
-// angle(p, q), mostly to the mas where p or q is large. The part of it past minute k has the tangent
-// (cosine(k)·q − sine(k)·p)/(cosine(k)·p + sine(k)·q). Ten minutes are added on the way, so that
-// nothing is negative. Nothing rests on its precision.
-fn estimate(t: &Table, p: u64, q: u64) -> u64
-    requires { ⌜ Searchable (now t) p q ⌝ }
-    ensures { λ r. ⌜ r ≤ right-angle ⌝ }
-{
-    let k = estimate_minutes(p, q);
-    let s = minute_sine(t, k);
-    let c = minute_sine(t, QUARTER_MINUTES - k);
-    let mas = c * p / RADIAN + s * q / RADIAN + 1;
-    let theta = MINUTE * k + excess(c * q + TEN_MINUTES * mas, s * p) / mas;
-    RIGHT_ANGLE - excess(RIGHT_ANGLE, excess(theta, TEN_MINUTES))
-}
-
-// angle(p, q): the angle from 0 to 90° whose sine and cosine are as q and p.
-pub fn angle(t: &Table, p: u64, q: u64) -> u64
-    requires { ⌜ IsTable (now t) × (p ≤ angle-limit) × (q ≤ angle-limit) ⌝ }
-    ensures { λ r. ⌜ r ≡ angle p q ⌝ }
-{
-    // both are 0
-    if p + q == 0 {
-        return 0;
-    }
-    search_near(t, p, q, estimate(t, p, q), 0)
 }

@@ -2,7 +2,7 @@
 use Prim.Native.Nat.{ℕ}
 use lib.IntN.{ℤ, natAbs, _-ℤ_}
 use Rattle.latitudes.specs.declared.Authalic.{Authalic}
-use Rattle.latitudes.specs.Latitude.{geodetic}
+use Rattle.geodetic_search.specs.Reverse.{geodetic}
 use Rattle.constants.specs.Derived.{seriesOf}
 use Rattle.reverse_series.specs.ReverseSeries.{reversed}
 

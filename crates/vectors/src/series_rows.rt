@@ -2,10 +2,10 @@
 // the two are at most 2 mas apart for these three e2: both leave out e^8, less than 1 mas here, and both are rounded.
 use crate::rows::set;
 use constants::constants_of;
+use geodetic_search::to_geodetic;
 use judging::gaps::gap;
 use latitudes::Authalic;
 use latitudes::Geodetic;
-use latitudes::to_geodetic;
 use printing::number;
 use printing::size;
 use printing::verdict;
@@ -22,7 +22,7 @@ ghost use lib.IntN.{natAbs};
 ghost use Rattle.sine_table.specs.Table.{IsTable};
 ghost use Rattle.units.specs.Units.{right-angle};
 ghost use Rattle.parameters.specs.ParameterSet.{accepted-e2};
-ghost use Rattle.latitudes.specs.Latitude.{geodetic};
+ghost use Rattle.geodetic_search.specs.Reverse.{geodetic};
 ghost use Rattle.constants.specs.Derived.{seriesOf};
 ghost use Rattle.vectors.specs.Series.{seriesGap, most-mas};
 

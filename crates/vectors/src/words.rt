@@ -1,12 +1,12 @@
 // The words of document 01: rounded division, roots, sines and angles.
 use crate::names;
 use crate::names::name;
+use angles::angle;
 use integers::near;
 use integers::root;
 use printing::size_value;
 use printing::value;
 use sine_table::Table;
-use trig::angle;
 use trig::cosine;
 use trig::sine;
 ghost use Rattle.sine_table.specs.Table.{IsTable};

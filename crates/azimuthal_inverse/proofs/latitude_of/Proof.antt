@@ -13,7 +13,7 @@ use Rattle.proof_kit.proofs.Size.{square-abs}
 use Rattle.integers.specs.Near.{signed}
 use Rattle.integers.specs.Root.{root}
 use Rattle.integers.proofs.Squares.{root-most}
-use Rattle.trig.specs.Angle.{angle}
+use Rattle.angles.specs.Angle.{angle}
 use Rattle.azimuthal_inverse.specs.Steps.{latitudeOf}
 use Rattle.azimuthal_inverse.proofs.AngleLaws.{coordinates, radius, angle-size}
 use Rattle.azimuthal_inverse.proofs.latitude_of.Statement.{statement}

@@ -12,7 +12,7 @@ use mir.Val.{toZ, ofZ}
 use Rattle.proof_kit.proofs.Range.{code, returned, as-lt, lt-taken, lt-left}
 use Rattle.integers.specs.Near.{signed}
 use Rattle.units.specs.Units.{right-angle, half-turn}
-use Rattle.trig.specs.Angle.{angle}
+use Rattle.angles.specs.Angle.{angle}
 use Rattle.azimuthal_inverse.proofs.AngleLaws.{coordinates, angle-size, longitude-far, longitude-near}
 use Rattle.azimuthal_inverse.proofs.longitude_of.Statement.{statement}
 use Rattle.azimuthal_inverse.proofs.longitude_of.Tie as tie

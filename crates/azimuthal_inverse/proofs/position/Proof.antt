@@ -6,7 +6,7 @@ use lib.IntN.{ℤ, natAbs, _+ℤ_}
 use Rattle.proof_kit.proofs.Range.{code, fits, read, read-size, returned}
 use Rattle.proof_kit.proofs.Size.{as-size}
 use Rattle.azimuthal_inverse.specs.declared.GeodeticAnswer.the-variants.{Position}
-use Rattle.latitudes.specs.Latitude.{geodetic}
+use Rattle.geodetic_search.specs.Reverse.{geodetic}
 use Rattle.units.specs.Units.{half-turn}
 use Rattle.units.specs.Spans.{wrapped}
 use Rattle.azimuthal_inverse.proofs.AngleLaws.{latitude-size, longitude-size}

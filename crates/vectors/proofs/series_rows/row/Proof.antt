@@ -10,7 +10,7 @@ use mir.Facts.{toZ-ofZ}
 use Rattle.units.proofs.Spans.{between}
 use Rattle.parameters.specs.ParameterSet.{accepted-e2}
 use Rattle.latitudes.specs.declared.Geodetic.{Geodetic}
-use Rattle.latitudes.specs.Latitude.{geodetic}
+use Rattle.geodetic_search.specs.Reverse.{geodetic}
 use Rattle.constants.specs.Derived.{seriesOf}
 use Rattle.reverse_series.specs.ReverseSeries.{reversed}
 use Rattle.billionths.proofs.Calls.{back}

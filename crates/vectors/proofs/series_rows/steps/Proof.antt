@@ -7,7 +7,7 @@ use mir.Facts.{toZ-ofZ}
 use Rattle.parameters.specs.declared.Parameters.{Parameters}
 use Rattle.parameters.specs.ParameterSet.{setRefusal}
 use Rattle.latitudes.specs.declared.AuthalicSeries.{AuthalicSeries}
-use Rattle.latitudes.specs.Latitude.{geodetic}
+use Rattle.geodetic_search.specs.Reverse.{geodetic}
 use Rattle.constants.specs.declared.Constants.{Constants}
 use Rattle.constants.specs.Derived.{seriesOf, constantsOf}
 use Rattle.constants.proofs.ConstantsLaws.{sound-as}
