@@ -1,7 +1,7 @@
 // Holds doubles, rows and lists to those expected, by their bits.
 use floats::is_finite;
+use pairs::Row;
 use point_lists::ListAnswer;
-use points::pairs::Row;
 use std::num::wrapping_add_u64;
 ghost use mathlib.Core.Path.{_≡_};
 ghost use mathlib.Core.Bool.{_&&_};

@@ -6,7 +6,7 @@ use Prim.Native.Nat.{ℕ, zero, suc}
 use native.Mathlib.Omega.{arith}
 use lib.Ieee.{Float}
 use Rattle.parameters.specs.declared.Parameters.{Parameters}
-use Rattle.points.specs.declared.pairs.Row.{Row}
+use Rattle.pairs.specs.declared.Row.{Row}
 use Rattle.point_lists.specs.declared.ListAnswer.{ListAnswer}
 use Rattle.point_lists.specs.Lists.{listRefusal, zeros, listAnswer, Counted, list-told, ListCall}
 use Rattle.laea_c.specs.Calls.{Answered, countAfter, ListAnswered}

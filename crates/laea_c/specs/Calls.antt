@@ -8,7 +8,7 @@ use lib.Ieee.{Float}
 use Rattle.parameters.specs.declared.Parameters.{Parameters}
 use Rattle.parameters.specs.ParameterSet.{setOf}
 use Rattle.units.specs.declared.answers.Told.{Told}
-use Rattle.points.specs.declared.pairs.Row.{Row}
+use Rattle.pairs.specs.declared.Row.{Row}
 use Rattle.point_lists.specs.declared.ListAnswer.{ListAnswer}
 use Rattle.point_lists.specs.declared.ListAnswer.the-variants.{Count, Refused}
 use Rattle.point_lists.specs.Lists.{written, zeros, listRefusal, listAnswer, ListCall}

@@ -1,14 +1,15 @@
 // One point, in degrees and metres.
 use crate::sets::Set;
 use crate::sets::parameters_of;
-use points::pairs::GeodeticPair;
-use points::pairs::PlanePair;
-use points::pairs::Row;
-use points::pairs::geodetic_row;
-use points::pairs::plane_row;
-use points::single::forward_degrees;
-use points::single::inverse_metres;
-ghost use Rattle.points.specs.Pairs.{forwardRow, inverseRow, degrees, metres};
+use pairs::GeodeticPair;
+use pairs::PlanePair;
+use pairs::Row;
+use pairs::geodetic_row;
+use pairs::plane_row;
+use points::forward_degrees;
+use points::inverse_metres;
+ghost use Rattle.pairs.specs.Pairs.{degrees, metres};
+ghost use Rattle.points.specs.Points.{forwardRow, inverseRow};
 ghost use Rattle.laea_c.specs.Calls.{parametersOf, AnswersFloats};
 
 // Writes the two values where the refusal number is 0, and only there. Returns the number.

@@ -7,7 +7,7 @@ use native.Mathlib.Numerals.{add-one}
 use native.Mathlib.Omega.{arith}
 use lib.Ieee.{Float, nan}
 use lib.ListN.{length, getD, set, take, drop}
-use Rattle.points.specs.declared.pairs.Row.{Row}
+use Rattle.pairs.specs.declared.Row.{Row}
 use Rattle.point_lists.specs.Lists.{rows, zeros}
 
 -- after i stores, from the front, of the elements of `new` into a list

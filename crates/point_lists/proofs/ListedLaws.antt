@@ -12,7 +12,7 @@ use Rattle.units.specs.Refusals.{firstOf}
 use Rattle.units.proofs.Chains.{link-passed}
 use Rattle.parameters.specs.ParameterSet.{setRefusal}
 use Rattle.integers.proofs.Greatest.{both}
-use Rattle.points.specs.declared.pairs.Row.{Row}
+use Rattle.pairs.specs.declared.Row.{Row}
 use Rattle.point_lists.specs.declared.ListAnswer.the-variants.{Count, Refused}
 use Rattle.point_lists.specs.Lists.{firstValues, secondValues, marks, lengthRefusal, listRefusal, zeros, Listed}
 

@@ -10,8 +10,9 @@ use Rattle.units.specs.Refusals.{unequal-lists, long-lists, unless, firstOf}
 use Rattle.units.specs.Answers.{answered}
 use Rattle.parameters.specs.declared.Parameters.{Parameters}
 use Rattle.parameters.specs.ParameterSet.{setRefusal}
-use Rattle.points.specs.declared.pairs.Row.{Row}
-use Rattle.points.specs.Pairs.{degrees, metres, forwardRow, inverseRow}
+use Rattle.pairs.specs.declared.Row.{Row}
+use Rattle.pairs.specs.Pairs.{degrees, metres}
+use Rattle.points.specs.Points.{forwardRow, inverseRow}
 use Rattle.point_lists.specs.declared.ListAnswer.{ListAnswer}
 use Rattle.point_lists.specs.declared.ListAnswer.the-variants.{Count, Refused}
 

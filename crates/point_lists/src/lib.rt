@@ -2,14 +2,14 @@
 // of marks.
 use constants::Constants;
 use constants::constants_of;
+use pairs::GeodeticPair;
+use pairs::PlanePair;
+use pairs::Row;
+use pairs::geodetic_row;
+use pairs::plane_row;
 use parameters::Parameters;
-use points::pairs::GeodeticPair;
-use points::pairs::PlanePair;
-use points::pairs::Row;
-use points::pairs::geodetic_row;
-use points::pairs::plane_row;
-use points::single::forward_pair;
-use points::single::inverse_pair;
+use points::forward_pair;
+use points::inverse_pair;
 use sine_table::Table;
 use units::both;
 use units::refusals::LONG_LISTS;

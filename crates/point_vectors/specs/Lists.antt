@@ -6,7 +6,7 @@ use lib.IntN.{pos, negsuc}
 use lib.Ieee.{Float, nan, fin, binary64, mul, ofInt}
 use lib.ListN.{getD, take, drop, replicate}
 use Rattle.parameters.specs.declared.Parameters.{Parameters}
-use Rattle.points.specs.declared.pairs.Row.{Row}
+use Rattle.pairs.specs.declared.Row.{Row}
 use Rattle.point_lists.specs.Lists.{rowOf, rows, firstValues, secondValues, marks, zeros, listRefusal, written, listAnswer}
 use Rattle.judging.specs.declared.doubles.Digest.{Digest}
 use Rattle.judging.specs.Doubles.{isTold, digestOf, same}

@@ -21,7 +21,7 @@ ghost use mathlib.Core.Path.{_≡_};
 ghost use Prim.Native.Nat.{_≤_};
 ghost use lib.ListN.{length};
 ghost use Rattle.point_lists.specs.Lists.{rowOf, ListCall};
-ghost use Rattle.points.specs.Pairs.{zeroFloat};
+ghost use Rattle.pairs.specs.Pairs.{zeroFloat};
 ghost use Rattle.parameters.specs.ParameterSet.{etrsLaea};
 ghost use Rattle.judging.specs.Doubles.{isTold};
 ghost use Rattle.point_vectors.specs.Lists.{room, numbersOf, marksOf, stepsOf, outcomeOf, untouchedDigest, isCounted, isRefused};

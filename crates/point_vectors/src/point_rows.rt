@@ -3,22 +3,22 @@
 use crate::doubles::show;
 use crate::names::name;
 use judging::doubles::are_alike;
+use pairs::GeodeticPair;
+use pairs::PlanePair;
+use pairs::PlanePairAnswer;
+use pairs::Row;
+use pairs::geodetic_row;
+use pairs::plane_row;
 use parameters::Parameters;
-use points::pairs::GeodeticPair;
-use points::pairs::PlanePair;
-use points::pairs::PlanePairAnswer;
-use points::pairs::Row;
-use points::pairs::geodetic_row;
-use points::pairs::plane_row;
-use points::single::forward_degrees;
-use points::single::inverse_metres;
+use points::forward_degrees;
+use points::inverse_metres;
 use printing::refusal;
 use printing::verdict;
 use printing::words;
 use printing::words::word;
 ghost use mathlib.Core.Path.{_≡_};
 ghost use Rattle.judging.specs.Doubles.{alike};
-ghost use Rattle.points.specs.Pairs.{acceptedRow, refusedRow};
+ghost use Rattle.pairs.specs.Pairs.{acceptedRow, refusedRow};
 ghost use Rattle.point_lists.specs.Lists.{rowOf};
 
 // From degrees to metres, and back.

@@ -19,14 +19,15 @@ use Rattle.azimuthal_forward.specs.declared.PlaneAnswer.the-variants.{Plane, Re
 use Rattle.azimuthal_forward.specs.Answer.{on-globe, forwardFar, forwardRefusal, eastingOf, northingOf, forwardOf}
 use Rattle.azimuthal_inverse.specs.declared.GeodeticAnswer.the-variants.{Position, Refused as GeodeticRefused}
 use Rattle.azimuthal_inverse.specs.Answer.{inverseFar, inverseRefusal, inverseLatitude, inverseLongitude, inverseOf}
-use Rattle.points.specs.declared.pairs.GeodeticPair.{GeodeticPair}
-use Rattle.points.specs.declared.pairs.PlanePair.{PlanePair}
-use Rattle.points.specs.declared.pairs.PlanePairAnswer.the-variants.{Metres, Refused}
-use Rattle.points.specs.declared.pairs.GeodeticPairAnswer.the-variants.{Degrees, Refused as NotFound}
-use Rattle.points.specs.Pairs.{latitudeMas, longitudeMas, eastingCm, northingCm, plane-row, geodetic-row, inMetres, inDegrees}
-use Rattle.points.specs.Pairs.{areFinite, withinGlobe, withinPlane, pairRefusal}
-use Rattle.points.specs.Pairs.{forwardPairRefusal, forwardPair, forwardDegrees, forwardRow}
-use Rattle.points.specs.Pairs.{inversePairRefusal, inversePair, inverseMetres, inverseRow}
+use Rattle.pairs.specs.declared.GeodeticPair.{GeodeticPair}
+use Rattle.pairs.specs.declared.PlanePair.{PlanePair}
+use Rattle.pairs.specs.declared.PlanePairAnswer.the-variants.{Metres, Refused}
+use Rattle.pairs.specs.declared.GeodeticPairAnswer.the-variants.{Degrees, Refused as NotFound}
+use Rattle.pairs.specs.Pairs.{latitudeMas, longitudeMas, eastingCm, northingCm, plane-row, geodetic-row, inMetres, inDegrees}
+use Rattle.pairs.specs.Pairs.{areFinite, withinGlobe, withinPlane}
+use Rattle.points.specs.Points.{pairRefusal}
+use Rattle.points.specs.Points.{forwardPairRefusal, forwardPair, forwardDegrees, forwardRow}
+use Rattle.points.specs.Points.{inversePairRefusal, inversePair, inverseMetres, inverseRow}
 
 -- ---- the chain, for an answer of either kind
 

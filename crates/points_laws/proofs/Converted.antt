@@ -19,12 +19,13 @@ use Rattle.azimuthal_inverse.specs.declared.GeodeticAnswer.the-variants.{Positi
 use Rattle.azimuthal_inverse.specs.Answer.{inverseFar, inverseRefusal, inverseLatitude, inverseLongitude, inverseOf}
 use Rattle.projection_laws.proofs.Ranges.{position-in-range}
 use Rattle.round_trip.proofs.Limits.{forward-on-plane}
-use Rattle.points.specs.declared.pairs.GeodeticPair.{GeodeticPair}
-use Rattle.points.specs.declared.pairs.PlanePair.{PlanePair}
-use Rattle.points.specs.declared.pairs.PlanePairAnswer.the-variants.{Metres}
-use Rattle.points.specs.declared.pairs.GeodeticPairAnswer.the-variants.{Degrees}
-use Rattle.points.specs.Pairs.{latitudeMas, longitudeMas, eastingCm, northingCm, areFinite, withinGlobe, withinPlane, plane-row, geodetic-row, pairRefusal}
-use Rattle.points.specs.Pairs.{forwardPairRefusal, forwardPair, forwardDegrees, forwardRow, inversePairRefusal, inversePair, inverseMetres, inverseRow}
+use Rattle.pairs.specs.declared.GeodeticPair.{GeodeticPair}
+use Rattle.pairs.specs.declared.PlanePair.{PlanePair}
+use Rattle.pairs.specs.declared.PlanePairAnswer.the-variants.{Metres}
+use Rattle.pairs.specs.declared.GeodeticPairAnswer.the-variants.{Degrees}
+use Rattle.pairs.specs.Pairs.{latitudeMas, longitudeMas, eastingCm, northingCm, areFinite, withinGlobe, withinPlane, plane-row, geodetic-row}
+use Rattle.points.specs.Points.{pairRefusal}
+use Rattle.points.specs.Points.{forwardPairRefusal, forwardPair, forwardDegrees, forwardRow, inversePairRefusal, inversePair, inverseMetres, inverseRow}
 use Rattle.points.proofs.AnswerLaws.{forward-tells, inverse-tells, rounded-on-globe, rounded-on-plane}
 use Rattle.points.proofs.AnswerLaws.{forward-converted as converted-forward, inverse-converted as converted-inverse}
 use Rattle.points_laws.specs.Theorems.{ForwardConverted, InverseConverted, ForwardFinite, InverseFinite, ForwardBack, InverseBack}

@@ -9,7 +9,7 @@ use lib.Ieee.{Float}
 use Rattle.floats.specs.Conversion.{wholeOf, floatOf}
 use Rattle.floats.specs.Limits.{isFinite, withinLimit}
 use Rattle.floats.proofs.Coordinates.{Coordinate, float-finite, float-within, float-back}
-use Rattle.points.specs.Pairs.{areFinite}
+use Rattle.pairs.specs.Pairs.{areFinite}
 
 -- a and b within the limits, and their floats
 pub record Floats {m n : ℕ} {limit limit′ : Float} {most most′ : ℕ} (one : Coordinate m limit most) (other : Coordinate n limit′ most′) (a b : ℤ)

@@ -8,8 +8,8 @@ use lib.Ieee.{Float, nan}
 use lib.ListN.{length, getD}
 use Rattle.parameters.specs.declared.Parameters.{Parameters}
 use Rattle.parameters.specs.ParameterSet.{setRefusal}
-use Rattle.points.specs.declared.pairs.Row.{Row}
-use Rattle.points.specs.Pairs.{degrees, metres}
+use Rattle.pairs.specs.declared.Row.{Row}
+use Rattle.pairs.specs.Pairs.{degrees, metres}
 use Rattle.points.proofs.AnswerLaws.{forward-tells, inverse-tells}
 use Rattle.point_lists.specs.declared.ListAnswer.{ListAnswer}
 use Rattle.point_lists.specs.Lists.{forwardAt, inverseAt, rows, firstValues, secondValues, marks, lengthRefusal, listRefusal}

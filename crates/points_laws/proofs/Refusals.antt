@@ -20,12 +20,13 @@ use Rattle.azimuthal_forward.specs.Steps.{near-enough}
 use Rattle.azimuthal_forward.specs.Answer.{nearness, forwardFar}
 use Rattle.azimuthal_inverse.specs.Steps.{at-origin, on-map, K, G}
 use Rattle.azimuthal_inverse.specs.Answer.{farFrom, inverseFar}
-use Rattle.points.specs.declared.pairs.GeodeticPair.{GeodeticPair}
-use Rattle.points.specs.declared.pairs.PlanePair.{PlanePair}
-use Rattle.points.specs.declared.pairs.PlanePairAnswer.the-variants.{Metres, Refused as PlaneRefused}
-use Rattle.points.specs.declared.pairs.GeodeticPairAnswer.the-variants.{Degrees, Refused as NotFound}
-use Rattle.points.specs.Pairs.{degrees, metres, latitudeMas, longitudeMas, eastingCm, northingCm, pairRefusal}
-use Rattle.points.specs.Pairs.{forwardPairRefusal, forwardPair, forwardDegrees, forwardRow, inversePairRefusal, inversePair, inverseMetres, inverseRow}
+use Rattle.pairs.specs.declared.GeodeticPair.{GeodeticPair}
+use Rattle.pairs.specs.declared.PlanePair.{PlanePair}
+use Rattle.pairs.specs.declared.PlanePairAnswer.the-variants.{Metres, Refused as PlaneRefused}
+use Rattle.pairs.specs.declared.GeodeticPairAnswer.the-variants.{Degrees, Refused as NotFound}
+use Rattle.pairs.specs.Pairs.{degrees, metres, latitudeMas, longitudeMas, eastingCm, northingCm}
+use Rattle.points.specs.Points.{pairRefusal}
+use Rattle.points.specs.Points.{forwardPairRefusal, forwardPair, forwardDegrees, forwardRow, inversePairRefusal, inversePair, inverseMetres, inverseRow}
 use Rattle.points.proofs.AnswerLaws.{forward-tells, inverse-tells}
 use Rattle.point_lists.specs.declared.ListAnswer.the-variants.{Refused}
 use Rattle.point_lists.specs.Lists.{rowOf, lengthRefusal, listRefusal, zeros, listAnswer}

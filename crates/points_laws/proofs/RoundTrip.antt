@@ -8,13 +8,14 @@ use Rattle.parameters.specs.declared.Parameters.{Parameters}
 use Rattle.azimuthal_inverse.specs.Answer.{inverseOf}
 use Rattle.round_trip.specs.RoundTrip.{latitude-bound, gap-bound, Conditions, CloseTo, RoundTripAt}
 use Rattle.round_trip.proofs.Demand3.{demand-3}
-use Rattle.points.specs.declared.pairs.GeodeticPair.{GeodeticPair}
-use Rattle.points.specs.declared.pairs.PlanePair.{PlanePair}
-use Rattle.points.specs.declared.pairs.Row.{Row}
-use Rattle.points.specs.declared.pairs.PlanePairAnswer.the-variants.{Metres}
-use Rattle.points.specs.declared.pairs.GeodeticPairAnswer.the-variants.{Degrees}
-use Rattle.points.specs.Pairs.{degrees, metres, latitudeMas, longitudeMas, eastingCm, northingCm, geodeticPair, withinPlane}
-use Rattle.points.specs.Pairs.{plane-row, geodetic-row, forwardDegrees, inverseMetres, inDegrees}
+use Rattle.pairs.specs.declared.GeodeticPair.{GeodeticPair}
+use Rattle.pairs.specs.declared.PlanePair.{PlanePair}
+use Rattle.pairs.specs.declared.Row.{Row}
+use Rattle.pairs.specs.declared.PlanePairAnswer.the-variants.{Metres}
+use Rattle.pairs.specs.declared.GeodeticPairAnswer.the-variants.{Degrees}
+use Rattle.pairs.specs.Pairs.{degrees, metres, latitudeMas, longitudeMas, eastingCm, northingCm, geodeticPair, withinPlane}
+use Rattle.pairs.specs.Pairs.{plane-row, geodetic-row, inDegrees}
+use Rattle.points.specs.Points.{forwardDegrees, inverseMetres}
 use Rattle.points.proofs.AnswerLaws.{forward-tells, inverse-tells, inverse-converted}
 use Rattle.point_lists.specs.Lists.{forwardAt, inverseAt}
 use Rattle.points_laws.specs.Theorems.{rowAt}

@@ -4,9 +4,9 @@ use mathlib.Core.Path.{_≡_, refl, ap}
 use Prim.Native.Nat.{ℕ, zero, suc}
 use native.Mathlib.Omega.{arith}
 use lib.Ieee.{Float}
-use Rattle.points.specs.declared.pairs.Row.{Row}
+use Rattle.pairs.specs.declared.Row.{Row}
 use Rattle.units.specs.Answers.{answered}
-use Rattle.points.specs.Pairs.{acceptedRow, refusedRow}
+use Rattle.pairs.specs.Pairs.{acceptedRow, refusedRow}
 
 pub nothing : {A : Type 0} {n : ℕ} → suc n ≡ 0 → A
 nothing e = let z : ⊥ = omega arith in absurd z

@@ -10,7 +10,7 @@ use Rattle.azimuthal_forward.specs.Answer.{forwardOf}
 use Rattle.azimuthal_inverse.specs.Answer.{inverseOf}
 use Rattle.projection_laws.proofs.Centre.{centre-forward as whole-centre-forward, centre-inverse as whole-centre-inverse}
 use Rattle.projection_laws.proofs.Refusals.{forward-decided, inverse-decided}
-use Rattle.points.specs.Pairs.{latitudeMas, longitudeMas, eastingCm, northingCm, planePair, geodeticPair, withinGlobe, withinPlane, inMetres, inDegrees}
+use Rattle.pairs.specs.Pairs.{latitudeMas, longitudeMas, eastingCm, northingCm, planePair, geodeticPair, withinGlobe, withinPlane, inMetres, inDegrees}
 use Rattle.points.proofs.AnswerLaws.{forward-converted, inverse-converted}
 use Rattle.points_laws.specs.Theorems.{ForwardWhole, InverseWhole, CentreForward, CentreInverse}
 use Rattle.points_laws.proofs.Floats.{Floats, both-finite, both-within, first-back, second-back}

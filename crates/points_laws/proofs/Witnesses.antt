@@ -20,7 +20,7 @@ use Rattle.azimuthal_inverse.specs.Answer.{inverseOf, geodetic-told}
 use Rattle.latitudes.specs.Latitude.{latitude}
 use Rattle.projection_laws.specs.Theorems.{sizeless}
 use Rattle.projection_laws.proofs.Witnesses.{forward-witnesses as whole-forward, inverse-witnesses as whole-inverse}
-use Rattle.points.specs.Pairs.{degrees, metres, zeroFloat, areFinite, withinGlobe, withinPlane, plane-row, geodetic-row, inMetres, inDegrees}
+use Rattle.pairs.specs.Pairs.{degrees, metres, zeroFloat, areFinite, withinGlobe, withinPlane, plane-row, geodetic-row, inMetres, inDegrees}
 use Rattle.points.proofs.AnswerLaws.{forward-set-refused, forward-not-finite, forward-beyond, inverse-set-refused, inverse-not-finite, inverse-beyond}
 use Rattle.point_lists.specs.Lists.{lengthRefusal, listRefusal}
 use Rattle.points_laws.specs.Theorems.{past-pole, past-plane, ForwardWitnesses, InverseWitnesses, ListWitnesses}

@@ -16,13 +16,14 @@ use Rattle.constants.specs.declared.Constants.{Constants}
 use Rattle.constants.specs.Derived.{constantsOf}
 use Rattle.azimuthal_forward.specs.Answer.{nearness}
 use Rattle.azimuthal_inverse.specs.Steps.{at-origin, on-map, K, G}
-use Rattle.points.specs.declared.pairs.GeodeticPair.{GeodeticPair}
-use Rattle.points.specs.declared.pairs.PlanePair.{PlanePair}
-use Rattle.points.specs.declared.pairs.Row.{Row}
-use Rattle.points.specs.declared.pairs.PlanePairAnswer.the-variants.{Metres, Refused as PlaneRefused}
-use Rattle.points.specs.declared.pairs.GeodeticPairAnswer.the-variants.{Degrees, Refused as NotFound}
-use Rattle.points.specs.Pairs.{degrees, metres, eastingCm, northingCm, latitudeMas, longitudeMas, areFinite, withinGlobe, withinPlane}
-use Rattle.points.specs.Pairs.{acceptedRow, plane-row, geodetic-row, forwardPairRefusal, forwardDegrees, inversePairRefusal, inverseMetres}
+use Rattle.pairs.specs.declared.GeodeticPair.{GeodeticPair}
+use Rattle.pairs.specs.declared.PlanePair.{PlanePair}
+use Rattle.pairs.specs.declared.Row.{Row}
+use Rattle.pairs.specs.declared.PlanePairAnswer.the-variants.{Metres, Refused as PlaneRefused}
+use Rattle.pairs.specs.declared.GeodeticPairAnswer.the-variants.{Degrees, Refused as NotFound}
+use Rattle.pairs.specs.Pairs.{degrees, metres, eastingCm, northingCm, latitudeMas, longitudeMas, areFinite, withinGlobe, withinPlane}
+use Rattle.pairs.specs.Pairs.{acceptedRow, plane-row, geodetic-row}
+use Rattle.points.specs.Points.{forwardPairRefusal, forwardDegrees, inversePairRefusal, inverseMetres}
 use Rattle.point_lists.specs.declared.ListAnswer.{ListAnswer}
 use Rattle.point_lists.specs.declared.ListAnswer.the-variants.{Refused}
 use Rattle.point_lists.specs.Lists.{rowOf, listRefusal, ListCall}

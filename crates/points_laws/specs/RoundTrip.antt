@@ -11,15 +11,16 @@ use Rattle.parameters.specs.declared.Parameters.{Parameters}
 use Rattle.azimuthal_inverse.specs.declared.GeodeticAnswer.the-variants.{Position}
 use Rattle.azimuthal_forward.specs.Answer.{nearness}
 use Rattle.round_trip.specs.RoundTrip.{farthest-latitude, least-nearness, latitude-bound, gap-bound, CloseTo}
-use Rattle.points.specs.declared.pairs.GeodeticPair.{GeodeticPair}
-use Rattle.points.specs.declared.pairs.PlanePair.{PlanePair}
-use Rattle.points.specs.declared.pairs.Row.{Row}
-use Rattle.points.specs.declared.pairs.GeodeticPairAnswer.{GeodeticPairAnswer}
-use Rattle.points.specs.declared.pairs.PlanePairAnswer.the-variants.{Metres}
-use Rattle.points.specs.declared.pairs.GeodeticPairAnswer.the-variants.{Degrees}
+use Rattle.pairs.specs.declared.GeodeticPair.{GeodeticPair}
+use Rattle.pairs.specs.declared.PlanePair.{PlanePair}
+use Rattle.pairs.specs.declared.Row.{Row}
+use Rattle.pairs.specs.declared.GeodeticPairAnswer.{GeodeticPairAnswer}
+use Rattle.pairs.specs.declared.PlanePairAnswer.the-variants.{Metres}
+use Rattle.pairs.specs.declared.GeodeticPairAnswer.the-variants.{Degrees}
 use Rattle.point_lists.specs.declared.ListAnswer.{ListAnswer}
-use Rattle.points.specs.Pairs.{degrees, metres, latitudeMas, longitudeMas, planePair, geodeticPair}
-use Rattle.points.specs.Pairs.{plane-row, geodetic-row, forwardDegrees, inverseMetres}
+use Rattle.pairs.specs.Pairs.{degrees, metres, latitudeMas, longitudeMas, planePair, geodeticPair}
+use Rattle.pairs.specs.Pairs.{plane-row, geodetic-row}
+use Rattle.points.specs.Points.{forwardDegrees, inverseMetres}
 use Rattle.point_lists.specs.Lists.{forwardAt, inverseAt, listRefusal, ListCall}
 use Rattle.points_laws.specs.Theorems.{AtEachIndex}
 

@@ -18,15 +18,16 @@ use Rattle.parameters.specs.ParameterSet.{setRefusal, etrsLaea}
 use Rattle.azimuthal_forward.specs.Answer.{forwardOf}
 use Rattle.azimuthal_inverse.specs.Answer.{inverseOf}
 use Rattle.projection_laws.specs.Theorems.{sizeless}
-use Rattle.points.specs.declared.pairs.GeodeticPair.{GeodeticPair}
-use Rattle.points.specs.declared.pairs.PlanePair.{PlanePair}
-use Rattle.points.specs.declared.pairs.Row.{Row}
-use Rattle.points.specs.declared.pairs.PlanePairAnswer.the-variants.{Metres, Refused as PlaneRefused}
-use Rattle.points.specs.declared.pairs.GeodeticPairAnswer.the-variants.{Degrees, Refused as NotFound}
+use Rattle.pairs.specs.declared.GeodeticPair.{GeodeticPair}
+use Rattle.pairs.specs.declared.PlanePair.{PlanePair}
+use Rattle.pairs.specs.declared.Row.{Row}
+use Rattle.pairs.specs.declared.PlanePairAnswer.the-variants.{Metres, Refused as PlaneRefused}
+use Rattle.pairs.specs.declared.GeodeticPairAnswer.the-variants.{Degrees, Refused as NotFound}
 use Rattle.point_lists.specs.declared.ListAnswer.{ListAnswer}
 use Rattle.point_lists.specs.declared.ListAnswer.the-variants.{Count, Refused}
-use Rattle.points.specs.Pairs.{degrees, metres, latitudeMas, longitudeMas, eastingCm, northingCm, planePair, geodeticPair, zeroFloat}
-use Rattle.points.specs.Pairs.{plane-row, geodetic-row, forwardDegrees, inverseMetres, inMetres, inDegrees}
+use Rattle.pairs.specs.Pairs.{degrees, metres, latitudeMas, longitudeMas, eastingCm, northingCm, planePair, geodeticPair, zeroFloat}
+use Rattle.pairs.specs.Pairs.{plane-row, geodetic-row, inMetres, inDegrees}
+use Rattle.points.specs.Points.{forwardDegrees, inverseMetres}
 use Rattle.point_lists.specs.Lists.{forwardAt, inverseAt, listRefusal, zeros, ListCall}
 
 -- ---- accepted answers of single calls

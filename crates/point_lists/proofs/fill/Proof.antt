@@ -6,7 +6,7 @@ use native.Mathlib.Nat.{le-antisymm}
 use native.Mathlib.Omega.{arith}
 use lib.Ieee.{Float, nan}
 use lib.ListN.{length}
-use Rattle.points.specs.declared.pairs.Row.{Row}
+use Rattle.pairs.specs.declared.Row.{Row}
 use Rattle.point_lists.specs.Lists.{rowOf, rows, firstValues, secondValues, marks as marksOf}
 use Rattle.point_lists.proofs.ListLaws.{filled, Filling, kept-length, room-left, stored, finished}
 use Rattle.point_lists.proofs.fill.Statement.{statement}

@@ -2,7 +2,7 @@
 use borrow.Author.Needs.{needs}
 use mathlib.Core.Path.{sym, ap, _∙_}
 use mathlib.Core.Bool.{Bool}
-use Rattle.points.specs.Pairs.{plane-row, geodetic-row, degrees, metres}
+use Rattle.pairs.specs.Pairs.{plane-row, geodetic-row, degrees, metres}
 use Rattle.points.proofs.AnswerLaws.{forward-tells, inverse-tells}
 use Rattle.point_lists.specs.Lists.{rowOf}
 use Rattle.point_lists.proofs.point.Statement.{statement}

@@ -2,7 +2,8 @@
 use borrow.Author.Needs.{needs}
 use mathlib.Core.Path.{ap, _∙_}
 use Rattle.parameters.specs.declared.Parameters.{Parameters}
-use Rattle.points.specs.Pairs.{inverseRow, metres}
+use Rattle.pairs.specs.Pairs.{metres}
+use Rattle.points.specs.Points.{inverseRow}
 use Rattle.laea_c.specs.Calls.{AnswersFloats}
 use Rattle.laea_c.proofs.CallLaws.{alike}
 use Rattle.laea_c.proofs.degrees.laea1_inverse.Statement.{statement}

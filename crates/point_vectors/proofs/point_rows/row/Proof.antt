@@ -1,7 +1,7 @@
 -- `point_rows::row` meets its contract: what is compared is the row of the call. Assumes nothing.
 use borrow.Author.Needs.{needs}
 use mathlib.Core.Path.{ap, _∙_}
-use Rattle.points.specs.declared.pairs.Row.{Row}
+use Rattle.pairs.specs.declared.Row.{Row}
 use Rattle.judging.specs.Doubles.{alike}
 use Rattle.point_vectors.proofs.point_rows.row.Statement.{statement}
 use Rattle.point_vectors.proofs.point_rows.row.Tie as tie
