@@ -1,28 +1,29 @@
 -- `direction_of` meets its contract: each call gives the paper's next quantity, and every one is at most 2 units in size. Assumes nothing.
 use borrow.Author.Needs.{needs}
-use mathlib.Core.Path.{_≡_, ap, ap₂, _∙_}
-use Prim.Native.Nat.{ℕ, _≤_}
+use mathlib.Core.Path.{_≡_, ap, _∙_}
+use Prim.Native.Nat.{_≤_}
 use native.Mathlib.Nat.{le-trans}
 use native.Mathlib.Omega.{arith}
 use lib.Dec.{lit<, lit≤}
-use lib.IntN.{ℤ, pos, natAbs, _+ℤ_, _-ℤ_, _*ℤ_}
-use mir.Syntax.{w64}
-use mir.Val.{toZ, ofZ}
-use Rattle.proof_kit.proofs.Range.{code, fits, read, kept}
-use Rattle.integers.specs.Near.{near}
-use Rattle.units.specs.Units.{unit, right-angle}
+use lib.IntN.{ℤ, natAbs, _+ℤ_}
+use mir.Facts.{toZ-ofZ}
+use Rattle.proof_kit.proofs.Range.{kept, returned}
+use Rattle.units.specs.Units.{unit, right-angle, U}
 use Rattle.trig.specs.Sine.{sine, cosine}
 use Rattle.trig.proofs.Interface.{sine-size, cosine-size}
 use Rattle.latitudes.specs.declared.Authalic.{Authalic}
+use Rattle.latitudes.specs.declared.Geodetic.{Geodetic}
 use Rattle.latitudes.specs.Latitude.{beta}
 use Rattle.latitudes.proofs.AuthalicLaws.{beta-size}
+use Rattle.constants.specs.declared.Constants.{Constants}
+use Rattle.billionths.proofs.Calls.{back, back-is, fits-is, near-is, product-is}
 use Rattle.azimuthal_forward.specs.Steps
 use Rattle.azimuthal_forward.specs.Steps.{b, u, v, w, G, directionOf}
-use Rattle.azimuthal_forward.proofs.ForwardLaws.{b-size, c-size, u-size, v-size, w-size, sum-size}
+use Rattle.azimuthal_forward.proofs.ForwardLaws.{v-size, G-size}
 use Rattle.azimuthal_forward.proofs.direction_of.Statement.{statement}
 use Rattle.azimuthal_forward.proofs.direction_of.Tie as tie
 
--- the places that are looked back at, each from the place before it
+-- the start of the function, as the later places look back at it
 abbrev start-at-to-authalic : tie.After-to-authalic → tie.Start
 start-at-to-authalic c = c .before .before .before .before
 
@@ -35,37 +36,26 @@ start-at-cosine c = start-at-sine (c .before)
 abbrev start-at-cosine2 : tie.After-cosine2 → tie.Start
 start-at-cosine2 c = start-at-cosine (c .before)
 
-abbrev start-at-product : tie.After-product → tie.Start
-start-at-product c = start-at-cosine2 (c .before)
-
 abbrev start-at-sine2 : tie.After-sine2 → tie.Start
-start-at-sine2 c = start-at-product (c .before)
+start-at-sine2 c = start-at-cosine2 (c .before .before)
 
 abbrev start-at-product2 : tie.After-product2 → tie.Start
 start-at-product2 c = start-at-sine2 (c .before)
 
-abbrev start-at-difference : tie.After-difference → tie.Start
-start-at-difference c = start-at-product2 (c .before)
-
 abbrev start-at-sum : tie.After-sum → tie.Start
-start-at-sum c = start-at-difference (c .before)
+start-at-sum c = start-at-product2 (c .before .before)
 
-abbrev cosine-at-sine2 : tie.After-sine2 → tie.After-cosine
-cosine-at-sine2 c = c .before .before .before
+-- a quantity of the paper, for the constants, the latitude and the longitude difference that the function was given
+abbrev value : (Constants → Geodetic → ℤ → ℤ) → tie.Start → ℤ
+value q s = q (s .args .k) (s .args .lat) (s .args .d)
 
-abbrev cosine-at-product2 : tie.After-product2 → tie.After-cosine
-cosine-at-product2 c = cosine-at-sine2 (c .before)
+-- r is read back as x, and is as small as products and sums require
+record Holds (r x : ℤ) : Type 0 where
+  pub is : back r ≡ x
+  pub small : natAbs (back r) ≤ 2_000_000_000
 
-abbrev sine-at-product2 : tie.After-product2 → tie.After-sine
-sine-at-product2 c = c .before .before .before .before .before
-
--- a result that is a quantity of at most n is read back as that quantity
-read-as : (r x : ℤ) {n : ℕ} → r ≡ x → natAbs x ≤ n → n ≤ 2_000_000_000 → toZ w64 (ofZ w64 r) ≡ x
-read-as r x e h l = ap (λ (z : ℤ). toZ w64 (ofZ w64 z)) e ∙ kept x (le-trans h l) (lit< tt)
-
--- and meets what the next call requires of its size
-small : (r x : ℤ) {n : ℕ} → r ≡ x → natAbs x ≤ n → n ≤ 2_000_000_000 → natAbs (toZ w64 (ofZ w64 r)) ≤ 2_000_000_000
-small r x e h l = rw (read-as r x e h l) (le-trans h l)
+holds : {r x : ℤ} → back r ≡ x → natAbs x ≤ unit → Holds r x
+holds e h = record { is = e; small = rw e (le-trans h (lit≤ tt)) }
 
 to-authalic-requires : tie.Need-to-authalic-requires
 to-authalic-requires c κs = search needs
@@ -75,172 +65,94 @@ beta-is c = ap (λ (x : Authalic). x .0) (c .to-authalic .ensures)
 
 beta-small : (c : tie.After-to-authalic) → natAbs (c .to-authalic .result .0) ≤ right-angle
 beta-small c =
-    let start = start-at-to-authalic c in
-    rw (beta-is c) (beta-size (start .args .k .series) (start .pre .1) (start .args .lat .0) (start .pre .3))
+    let s = start-at-to-authalic c in
+    rw (beta-is c) (beta-size _ (s .pre .1) _ (s .pre .3))
 
 sine-requires : tie.Need-sine-requires
 sine-requires c κs = (start-at-to-authalic c .pre .0, beta-small c)
 
-b-is : (c : tie.After-sine) → c .sine .result ≡ b (start-at-sine c .args .k) (start-at-sine c .args .lat) (start-at-sine c .args .d)
+b-holds : (c : tie.After-sine) → Holds (c .sine .result) (value b (start-at-sine c))
 unfolding b
-b-is c = c .sine .ensures ∙ ap sine (beta-is (c .before))
+b-holds c = holds (returned (c .sine .ok) ∙ c .sine .ensures ∙ ap sine (beta-is (c .before))) (sine-size _)
 
 cosine-requires : tie.Need-cosine-requires
 cosine-requires c κs = (start-at-sine c .pre .0, beta-small (c .before))
 
-c-is : (c : tie.After-cosine) → c .cosine .result ≡ Steps.c (start-at-cosine c .args .k) (start-at-cosine c .args .lat) (start-at-cosine c .args .d)
+c-holds : (c : tie.After-cosine) → Holds (c .cosine .result) (value Steps.c (start-at-cosine c))
 unfolding Steps.c
-c-is c = c .cosine .ensures ∙ ap cosine (beta-is (c .before .before))
+c-holds c = holds (returned (c .cosine .ok) ∙ c .cosine .ensures ∙ ap cosine (beta-is (c .before .before))) (cosine-size _)
 
 cosine-requires-2 : tie.Need-cosine-requires-2
 cosine-requires-2 c κs =
-    let start = start-at-cosine c in
-    (start .pre .0, rw (kept (start .args .d) (start .pre .4) (lit< tt)) (omega (arith, start .pre .4)))
+    let s = start-at-cosine c in
+    (s .pre .0, rw (toZ-ofZ (s .fits .d)) (omega (arith, s .pre .4)))
 
-cosine-Δ : (c : tie.After-cosine2) → c .cosine2 .result ≡ cosine (start-at-cosine2 c .args .d)
-cosine-Δ c =
-    let start = start-at-cosine2 c in
-    c .cosine2 .ensures ∙ ap cosine (kept (start .args .d) (start .pre .4) (lit< tt))
+cosine-Δ : (c : tie.After-cosine2) → Holds (c .cosine2 .result) (cosine (start-at-cosine2 c .args .d))
+cosine-Δ c = holds (returned (c .cosine2 .ok) ∙ c .cosine2 .ensures ∙ ap cosine (toZ-ofZ (start-at-cosine2 c .fits .d))) (cosine-size _)
 
 product-requires : tie.Need-product-requires
-product-requires c κs =
-    let start = start-at-cosine2 c in (
-      small (c .before .cosine .result) (Steps.c (start-at-cosine2 c .args .k) (start-at-cosine2 c .args .lat) (start-at-cosine2 c .args .d))
-          (c-is (c .before)) (c-size (start-at-cosine2 c .args .k) (start-at-cosine2 c .args .lat) (start-at-cosine2 c .args .d)) (lit≤ tt),
-      small (c .cosine2 .result) (cosine (start .args .d)) (cosine-Δ c) (cosine-size (start .args .d)) (lit≤ tt),
-    )
+product-requires c κs = (c-holds (c .before) .small, cosine-Δ c .small)
 
-v-is : (c : tie.After-product) → c .product .result ≡ v (start-at-product c .args .k) (start-at-product c .args .lat) (start-at-product c .args .d)
+v-holds : (c : tie.After-product) → Holds (c .product .result) (value v (start-at-cosine2 (c .before)))
 unfolding v
-v-is c =
-    let start = start-at-product c in
-    c .product .ensures
-    ∙ ap₂ (λ (x y : ℤ). near (x *ℤ y) unit)
-    (read-as (c .before .before .cosine .result) (Steps.c (start-at-product c .args .k) (start-at-product c .args .lat) (start-at-product c .args .d))
-    (c-is (c .before .before)) (c-size (start-at-product c .args .k) (start-at-product c .args .lat) (start-at-product c .args .d)) (lit≤ tt))
-    (read-as (c .before .cosine2 .result) (cosine (start .args .d)) (cosine-Δ (c .before)) (cosine-size (start .args .d)) (lit≤ tt))
+v-holds c =
+    holds (product-is (c .product .ok) (c .product .ensures) (c-holds (c .before .before) .is) (cosine-Δ (c .before) .is)) (v-size _ _ _)
 
 sine-requires-2 : tie.Need-sine-requires-2
 sine-requires-2 c κs = search needs
 
-sine-Δ : (c : tie.After-sine2) → c .sine2 .result ≡ sine (start-at-sine2 c .args .d)
-sine-Δ c =
-    let start = start-at-sine2 c in
-    c .sine2 .ensures ∙ ap sine (kept (start .args .d) (start .pre .4) (lit< tt))
+sine-Δ : (c : tie.After-sine2) → Holds (c .sine2 .result) (sine (start-at-sine2 c .args .d))
+sine-Δ c = holds (returned (c .sine2 .ok) ∙ c .sine2 .ensures ∙ ap sine (toZ-ofZ (start-at-sine2 c .fits .d))) (sine-size _)
 
 product-requires-2 : tie.Need-product-requires-2
-product-requires-2 c κs =
-    let start = start-at-sine2 c in (
-      small (cosine-at-sine2 c .cosine .result) (Steps.c (start-at-sine2 c .args .k) (start-at-sine2 c .args .lat) (start-at-sine2 c .args .d))
-          (c-is (cosine-at-sine2 c)) (c-size (start-at-sine2 c .args .k) (start-at-sine2 c .args .lat) (start-at-sine2 c .args .d)) (lit≤ tt),
-      small (c .sine2 .result) (sine (start .args .d)) (sine-Δ c) (sine-size (start .args .d)) (lit≤ tt),
-    )
+product-requires-2 c κs = (c-holds (c .before .before .before) .small, sine-Δ c .small)
 
-u-is : (c : tie.After-product2) → c .product2 .result ≡ u (start-at-product2 c .args .k) (start-at-product2 c .args .lat) (start-at-product2 c .args .d)
+u-read : (c : tie.After-product2) → back (c .product2 .result) ≡ value u (start-at-product2 c)
 unfolding u
-u-is c =
-    let start = start-at-product2 c in
-    c .product2 .ensures
-    ∙ ap₂ (λ (x y : ℤ). near (x *ℤ y) unit)
-    (read-as (cosine-at-product2 c .cosine .result)
-    (Steps.c (start-at-product2 c .args .k) (start-at-product2 c .args .lat) (start-at-product2 c .args .d)) (c-is (cosine-at-product2 c))
-    (c-size (start-at-product2 c .args .k) (start-at-product2 c .args .lat) (start-at-product2 c .args .d)) (lit≤ tt))
-    (read-as (c .before .sine2 .result) (sine (start .args .d)) (sine-Δ (c .before)) (sine-size (start .args .d)) (lit≤ tt))
+u-read c = product-is (c .product2 .ok) (c .product2 .ensures) (c-holds (c .before .before .before .before) .is) (sine-Δ (c .before) .is)
 
--- C0, b, S0 and v as the two last calls take them
-record Taken (c : tie.After-product2) : Type 0 where
-  pub c0-read : toZ w64 (ofZ w64 (start-at-product2 c .args .k .c0)) ≡ start-at-product2 c .args .k .c0
-  pub b-read : toZ w64 (ofZ w64 (sine-at-product2 c .sine .result)) ≡ b (start-at-product2 c .args .k) (start-at-product2 c .args .lat)
-      (start-at-product2 c .args .d)
-  pub s0-read : toZ w64 (ofZ w64 (start-at-product2 c .args .k .s0)) ≡ start-at-product2 c .args .k .s0
-  pub v-read : toZ w64 (ofZ w64 (c .before .before .product .result)) ≡ v (start-at-product2 c .args .k) (start-at-product2 c .args .lat)
-      (start-at-product2 c .args .d)
+-- C0, b, S0 and v, which both of the last calls take
+record Taken (c : tie.After-product2) (s : tie.Start) : Type 0 where
+  pub c0-holds : Holds (s .args .k .c0) (s .args .k .c0)
+  pub b-holds : Holds (c .before .before .before .before .before .sine .result) (value b s)
+  pub s0-holds : Holds (s .args .k .s0) (s .args .k .s0)
+  pub v-holds : Holds (c .before .before .product .result) (value v s)
 
-taken : (c : tie.After-product2) → Taken c
+taken : (c : tie.After-product2) → Taken c (start-at-product2 c)
 taken c =
-    let start = start-at-product2 c in
+    let centre = start-at-product2 c .pre .2 in
     record {
-      c0-read = kept (start .args .k .c0) (start .pre .2 .c0-size) (lit< tt);
-      b-read = read-as (sine-at-product2 c .sine .result)
-          (b (start-at-product2 c .args .k) (start-at-product2 c .args .lat) (start-at-product2 c .args .d)) (b-is (sine-at-product2 c))
-          (b-size (start-at-product2 c .args .k) (start-at-product2 c .args .lat) (start-at-product2 c .args .d)) (lit≤ tt);
-      s0-read = kept (start .args .k .s0) (start .pre .2 .s0-size) (lit< tt);
-      v-read = read-as (c .before .before .product .result)
-          (v (start-at-product2 c .args .k) (start-at-product2 c .args .lat) (start-at-product2 c .args .d)) (v-is (c .before .before))
-          (v-size (start-at-product2 c .args .k) (start-at-product2 c .args .lat) (start-at-product2 c .args .d)) (lit≤ tt);
+      c0-holds = holds (kept _ (centre .c0-size) (lit< tt)) (centre .c0-size);
+      b-holds = b-holds (c .before .before .before .before .before);
+      s0-holds = holds (kept _ (centre .s0-size) (lit< tt)) (centre .s0-size);
+      v-holds = v-holds (c .before .before);
     }
 
--- at most one unit is at most two
-below-two : (r x : ℤ) → r ≡ x → natAbs x ≤ unit → natAbs r ≤ 2_000_000_000
-below-two r x e h = rw e (omega arith)
-
 difference-requires : tie.Need-difference-requires
-difference-requires c κs =
-    let start = start-at-product2 c in
-    let r = taken c in (
-      below-two _ (start .args .k .c0) (r .c0-read) (start .pre .2 .c0-size),
-      below-two _ (b (start-at-product2 c .args .k) (start-at-product2 c .args .lat) (start-at-product2 c .args .d)) (r .b-read)
-          (b-size (start-at-product2 c .args .k) (start-at-product2 c .args .lat) (start-at-product2 c .args .d)),
-      below-two _ (start .args .k .s0) (r .s0-read) (start .pre .2 .s0-size),
-      below-two _ (v (start-at-product2 c .args .k) (start-at-product2 c .args .lat) (start-at-product2 c .args .d)) (r .v-read)
-          (v-size (start-at-product2 c .args .k) (start-at-product2 c .args .lat) (start-at-product2 c .args .d)),
-    )
+difference-requires c κs = let t = taken c in (t .c0-holds .small, t .b-holds .small, t .s0-holds .small, t .v-holds .small)
 
-w-is : (c : tie.After-difference) → c .difference .result ≡ w (start-at-difference c .args .k) (start-at-difference c .args .lat)
-    (start-at-difference c .args .d)
+w-read : (c : tie.After-difference) → back (c .difference .result) ≡ value w (start-at-product2 (c .before))
 unfolding w
-w-is c =
-    let r = taken (c .before) in
-    c .difference .ensures
-    ∙ ap₂ (λ (x y : ℤ). near (x -ℤ y) unit) (ap₂ _*ℤ_ (r .c0-read) (r .b-read)) (ap₂ _*ℤ_ (r .s0-read) (r .v-read))
+w-read c =
+    let t = taken (c .before) in
+    near-is (c .difference .ok) unit (c .difference .ensures) (rw (t .c0-holds .is, t .b-holds .is, t .s0-holds .is, t .v-holds .is))
 
 sum-requires : tie.Need-sum-requires
-sum-requires c κs =
-    let start = start-at-difference c in
-    let r = taken (c .before) in (
-      below-two _ (start .args .k .s0) (r .s0-read) (start .pre .2 .s0-size),
-      below-two _ (b (start-at-difference c .args .k) (start-at-difference c .args .lat) (start-at-difference c .args .d)) (r .b-read)
-          (b-size (start-at-difference c .args .k) (start-at-difference c .args .lat) (start-at-difference c .args .d)),
-      below-two _ (start .args .k .c0) (r .c0-read) (start .pre .2 .c0-size),
-      below-two _ (v (start-at-difference c .args .k) (start-at-difference c .args .lat) (start-at-difference c .args .d)) (r .v-read)
-          (v-size (start-at-difference c .args .k) (start-at-difference c .args .lat) (start-at-difference c .args .d)),
-    )
+sum-requires c κs = let t = taken (c .before) in (t .s0-holds .small, t .b-holds .small, t .c0-holds .small, t .v-holds .small)
 
-cosine-angle : (c : tie.After-sum) →
-    c .sum .result ≡ near (start-at-sum c .args .k .s0 *ℤ b (start-at-sum c .args .k) (start-at-sum c .args .lat)
-    (start-at-sum c .args .d) +ℤ start-at-sum c .args .k .c0 *ℤ v (start-at-sum c .args .k) (start-at-sum c .args .lat) (start-at-sum c .args .d)) unit
-cosine-angle c =
-    let r = taken (c .before .before) in
-    c .sum .ensures
-    ∙ ap₂ (λ (x y : ℤ). near (x +ℤ y) unit) (ap₂ _*ℤ_ (r .s0-read) (r .b-read)) (ap₂ _*ℤ_ (r .c0-read) (r .v-read))
-
-sum-small : (c : tie.After-sum) → natAbs (c .sum .result) ≤ 2_000_000_000
-sum-small c =
-    let start = start-at-sum c in
-    rw (cosine-angle c)
-    (sum-size (start .args .k .s0) (b (start-at-sum c .args .k) (start-at-sum c .args .lat) (start-at-sum c .args .d)) (start .args .k .c0)
-    (v (start-at-sum c .args .k) (start-at-sum c .args .lat) (start-at-sum c .args .d)) (start .pre .2 .s0-size)
-    (b-size (start-at-sum c .args .k) (start-at-sum c .args .lat) (start-at-sum c .args .d)) (start .pre .2 .c0-size)
-    (v-size (start-at-sum c .args .k) (start-at-sum c .args .lat) (start-at-sum c .args .d)))
+G-is : (c : tie.After-sum) → U +ℤ back (c .sum .result) ≡ value G (start-at-sum c)
+unfolding G
+G-is c =
+    let t = taken (c .before .before) in
+    ap (λ (x : ℤ). U +ℤ x) (near-is (c .sum .ok) unit (c .sum .ensures) (rw (t .s0-holds .is, t .b-holds .is, t .c0-holds .is, t .v-holds .is)))
 
 add-t16 : tie.Need-add-t16
-add-t16 c = fits (search (code, sum-small c) depth 40 fits 20000) tt
+add-t16 c = fits-is (G-is c) (G-size _ (start-at-sum c .pre .2) _ _) (lit< tt)
 
 returns : tie.Need-returns
-unfolding directionOf G
+unfolding directionOf
 returns c =
-    let start = start-at-sum c in
-    let nearness : toZ w64 (ofZ w64 (pos 1_000_000_000 +ℤ toZ w64 (ofZ w64 (c .sum .result)))) ≡ pos unit +ℤ near
-    (start .args .k .s0 *ℤ b (start-at-sum c .args .k) (start-at-sum c .args .lat) (start-at-sum c .args .d) +ℤ start .args .k .c0 *ℤ v
-    (start-at-sum c .args .k) (start-at-sum c .args .lat) (start-at-sum c .args .d)) unit = read (search (code, sum-small c) depth 40 fits 20000) tt
-    ∙ ap (λ (x : ℤ). pos unit +ℤ x) (cosine-angle c) in
-    rw (
-      read-as (c .before .before .product2 .result) (u (start-at-sum c .args .k) (start-at-sum c .args .lat) (start-at-sum c .args .d))
-          (u-is (c .before .before)) (u-size (start-at-sum c .args .k) (start-at-sum c .args .lat) (start-at-sum c .args .d)) (lit≤ tt),
-      read-as (c .before .difference .result) (w (start-at-sum c .args .k) (start-at-sum c .args .lat) (start-at-sum c .args .d)) (w-is (c .before))
-          (w-size (start .args .k) (start .pre .2) (start .args .lat) (start .args .d)) (lit≤ tt),
-      nearness,
-    )
+    rw (u-read (c .before .before), w-read (c .before), back-is (G-is c) (G-size _ (start-at-sum c .pre .2) _ _) (lit< tt))
 
 pub direction-of-spec : {M : Type 1} → statement M
 direction-of-spec =

@@ -3,116 +3,64 @@ use borrow.Author.Needs.{needs}
 use borrow.Author.Tests.{not-true, not-false}
 use mathlib.Core.Path.{_≡_, sym, ap, ap₂, _∙_}
 use mathlib.Core.Bool.{true}
-use Prim.Native.Nat.{ℕ, _≤_}
+use Prim.Native.Nat.{_≤_, _<_, _^_}
 use native.Mathlib.Nat.{le-trans}
 use lib.Dec.{lit<, lit≤}
 use lib.IntN.{ℤ, pos, natAbs, _+ℤ_, _-ℤ_, _*ℤ_}
-use lib.Signed.{_≤ℤ_, ltZ}
-use mir.Syntax.{w64}
-use mir.Val.{toZ, ofZ}
+use lib.Signed.{_≤ℤ_, _<ℤ_, mag}
 use mir.Facts.{toZ-ofZ}
-use Rattle.proof_kit.proofs.Range.{code, fits, read, read-size, kept, returned}
-use Rattle.proof_kit.proofs.Size.{as-size}
+use Rattle.proof_kit.proofs.Range.{kept, returned}
+use Rattle.proof_kit.proofs.Size.{abs-sub-le}
 use Rattle.proof_kit.proofs.Order.{≤ℤ-trans, pos-≤ℤ, ltZ-true, ltZ-false, lt-leZ, le-leZ}
 use Rattle.integers.specs.Near.{near}
-use Rattle.units.specs.Units.{right-angle, half-turn}
+use Rattle.units.specs.Units.{full-turn}
+use Rattle.latitudes.specs.declared.Geodetic.{Geodetic}
+use Rattle.parameters.specs.declared.Parameters.{Parameters}
+use Rattle.parameters.proofs.AcceptedSet.{Accepted, accepted}
 use Rattle.constants.specs.declared.Constants.{Constants}
+use Rattle.constants.specs.Derived.{constantsOf}
+use Rattle.constants.proofs.ConstantsLaws.{Sound, sound, sound-as}
+use Rattle.billionths.proofs.Calls.{back, back-is, fits-is}
 use Rattle.azimuthal_forward.specs.declared.Direction.{Direction}
 use Rattle.azimuthal_forward.specs.declared.PlaneAnswer.the-variants.{Plane}
-use Rattle.constants.specs.Derived.{constantsOf}
-use Rattle.azimuthal_forward.specs.Steps.{H, u, w, dE, dN, directionOf, near-enough}
+use Rattle.azimuthal_forward.specs.Steps.{H, dE, dN, directionOf, near-enough}
 use Rattle.azimuthal_forward.specs.Answer.{nearness, on-globe, eastingOf, northingOf}
-use Rattle.parameters.proofs.AcceptedSet.{Accepted, accepted}
-use Rattle.constants.proofs.ConstantsLaws.{Sound, sound, sound-as}
 use Rattle.azimuthal_forward.proofs.ForwardLaws.{u-size, w-size, G-size, H-least, H-most, globe-sizes}
 use Rattle.azimuthal_forward.proofs.AnswerLaws.{forward-off-globe, forward-too-far, forward-plane}
 use Rattle.azimuthal_forward.proofs.forward_point.Statement.{statement}
 use Rattle.azimuthal_forward.proofs.forward_point.Tie as tie
 
--- the places that are looked back at, each from the place before it
+-- the places that the later ones look back at
 abbrev start-at-else1 : tie.Else1 → tie.Start
 start-at-else1 c = c .before .before
-
-abbrev start-at-then1 : tie.Then1 → tie.Start
-start-at-then1 c = c .before .before
-
-abbrev start-at-struct-told : tie.After-struct-told → tie.Start
-start-at-struct-told c = start-at-else1 (c .before .before)
-
-abbrev start-at-direction-of : tie.After-direction-of → tie.Start
-start-at-direction-of c = start-at-struct-told (c .before)
-
-abbrev start-at-else2 : tie.Else2 → tie.Start
-start-at-else2 c = start-at-direction-of (c .before .before)
-
-abbrev start-at-then2 : tie.Then2 → tie.Start
-start-at-then2 c = start-at-direction-of (c .before .before)
-
-abbrev start-at-scale : tie.After-scale → tie.Start
-start-at-scale c = start-at-else2 (c .before)
-
-abbrev start-at-struct-told5 : tie.After-struct-told5 → tie.Start
-start-at-struct-told5 c = start-at-scale (c .before .before .before)
-
-abbrev start-at-coordinate : tie.After-coordinate → tie.Start
-start-at-coordinate c = start-at-struct-told5 (c .before)
-
-abbrev start-at-struct-told8 : tie.After-struct-told8 → tie.Start
-start-at-struct-told8 c = start-at-coordinate (c .before .before .before)
-
-abbrev start-at-coordinate2 : tie.After-coordinate2 → tie.Start
-start-at-coordinate2 c = start-at-struct-told8 (c .before)
-
-abbrev coordinate-at-coordinate2 : tie.After-coordinate2 → tie.After-coordinate
-coordinate-at-coordinate2 c = c .before .before .before .before
-
-abbrev scale-at-struct-told5 : tie.After-struct-told5 → tie.After-scale
-scale-at-struct-told5 c = c .before .before .before
-
-abbrev scale-at-coordinate : tie.After-coordinate → tie.After-scale
-scale-at-coordinate c = scale-at-struct-told5 (c .before)
-
-abbrev scale-at-struct-told8 : tie.After-struct-told8 → tie.After-scale
-scale-at-struct-told8 c = scale-at-coordinate (c .before .before .before)
-
-abbrev scale-at-coordinate2 : tie.After-coordinate2 → tie.After-scale
-scale-at-coordinate2 c = scale-at-struct-told8 (c .before)
-
-abbrev else2-at-coordinate2 : tie.After-coordinate2 → tie.Else2
-else2-at-coordinate2 c = c .before .before .before .before .before .before .before .before .before
-
-abbrev direction-of-at-scale : tie.After-scale → tie.After-direction-of
-direction-of-at-scale c = c .before .before .before
-
-abbrev direction-of-at-struct-told5 : tie.After-struct-told5 → tie.After-direction-of
-direction-of-at-struct-told5 c = direction-of-at-scale (c .before .before .before)
-
-abbrev direction-of-at-coordinate : tie.After-coordinate → tie.After-direction-of
-direction-of-at-coordinate c = direction-of-at-struct-told5 (c .before)
-
-abbrev direction-of-at-struct-told8 : tie.After-struct-told8 → tie.After-direction-of
-direction-of-at-struct-told8 c = direction-of-at-coordinate (c .before .before .before)
-
-abbrev direction-of-at-coordinate2 : tie.After-coordinate2 → tie.After-direction-of
-direction-of-at-coordinate2 c = direction-of-at-struct-told8 (c .before)
 
 abbrev else1-at-direction-of : tie.After-direction-of → tie.Else1
 else1-at-direction-of c = c .before .before .before
 
-abbrev else1-at-then2 : tie.Then2 → tie.Else1
-else1-at-then2 c = else1-at-direction-of (c .before .before)
+abbrev start-at-direction-of : tie.After-direction-of → tie.Start
+start-at-direction-of c = start-at-else1 (else1-at-direction-of c)
 
-abbrev else1-at-struct-told5 : tie.After-struct-told5 → tie.Else1
-else1-at-struct-told5 c = else1-at-direction-of (c .before .before .before .before .before .before)
+abbrev direction-of-at-scale : tie.After-scale → tie.After-direction-of
+direction-of-at-scale c = c .before .before .before
 
-abbrev else1-at-coordinate : tie.After-coordinate → tie.Else1
-else1-at-coordinate c = else1-at-struct-told5 (c .before)
+abbrev start-at-scale : tie.After-scale → tie.Start
+start-at-scale c = start-at-direction-of (direction-of-at-scale c)
 
-abbrev else1-at-struct-told8 : tie.After-struct-told8 → tie.Else1
-else1-at-struct-told8 c = else1-at-coordinate (c .before .before .before)
+abbrev scale-at-coordinate : tie.After-coordinate → tie.After-scale
+scale-at-coordinate c = c .before .before .before .before
 
-abbrev else1-at-coordinate2 : tie.After-coordinate2 → tie.Else1
-else1-at-coordinate2 c = else1-at-struct-told8 (c .before)
+abbrev coordinate-at-coordinate2 : tie.After-coordinate2 → tie.After-coordinate
+coordinate-at-coordinate2 c = c .before .before .before .before
+
+-- the paper's Δ, direction and other values for the set and the position that the function was given
+abbrev Δ-of : tie.Start → ℤ
+Δ-of s = s .args .lon -ℤ s .args .p .lon0
+
+abbrev direction : tie.Start → Direction
+direction s = directionOf (constantsOf (s .args .p)) (s .args .lat) (Δ-of s)
+
+abbrev value : (Parameters → Geodetic → ℤ → ℤ) → tie.Start → ℤ
+value q s = q (s .args .p) (s .args .lat) (s .args .lon)
 
 is-on-globe-requires : tie.Need-is-on-globe-requires
 is-on-globe-requires c κs = search needs
@@ -122,198 +70,119 @@ globe-is c = c .is-on-globe .ensures ∙ ap (on-globe (c .before .args .lat)) (t
 
 returns : tie.Need-returns
 returns c =
-    sym (forward-off-globe (start-at-then1 c .args .p) (start-at-then1 c .args .lat) (start-at-then1 c .args .lon) (start-at-then1 c .pre .accepted)
-    (sym (globe-is (c .before)) ∙ not-true (c .before .is-on-globe .result) (c .if1 .taken)))
+    sym (forward-off-globe _ _ _ (c .before .before .pre .accepted) (sym (globe-is (c .before)) ∙ not-true (c .before .is-on-globe .result) (c .if1 .taken)))
 
--- what is known of a position on the globe
 on-it : (c : tie.Else1) → on-globe (start-at-else1 c .args .lat) (start-at-else1 c .args .lon) ≡ true
 on-it c = sym (globe-is (c .before)) ∙ not-false (c .before .is-on-globe .result) (c .if1 .left)
 
-record Known (c : tie.Else1) : Type 0 where
-  pub latitude-size : natAbs (start-at-else1 c .args .lat .0) ≤ right-angle
-  pub longitude-size : natAbs (start-at-else1 c .args .lon) ≤ half-turn
-  pub set : Accepted (start-at-else1 c .args .p)
-  pub constants : Sound (start-at-else1 c .args .k)
+set : (s : tie.Start) → Accepted (s .args .p)
+set s = accepted _ (s .pre .accepted)
 
-known : (c : tie.Else1) → Known c
-known c =
-    let start = start-at-else1 c in
-    let sizes = globe-sizes (start .args .lat) (start .args .lon) (on-it c) in
-    record {
-      latitude-size = sizes .0;
-      longitude-size = sizes .1;
-      set = accepted (start .args .p) (start .pre .accepted);
-      constants = sound-as (start .args .p) (start .args .k) (start .pre .accepted) (start .pre .constants);
-    }
+constants : (s : tie.Start) → Sound (constantsOf (s .args .p))
+constants s = sound _ (s .pre .accepted)
+
+-- the code's Δ is the paper's, since it is at most a full turn
+Δ-is : (s : tie.Start) → back (s .args .lon) -ℤ back (s .args .p .lon0) ≡ Δ-of s
+Δ-is s = ap₂ _-ℤ_ (toZ-ofZ (s .fits .lon)) (kept (s .args .p .lon0) (set s .lon0-size) (lit< tt))
+
+Δ-size : (c : tie.Else1) → natAbs (Δ-of (start-at-else1 c)) ≤ full-turn
+Δ-size c =
+    let s = start-at-else1 c in
+    abs-sub-le (s .args .lon) (s .args .p .lon0) (globe-sizes _ _ (on-it c) .1) (set s .lon0-size)
 
 sub-direction-of : tie.Need-sub-direction-of
-sub-direction-of c =
-    let k = known (c .before .before) in
-    fits (search (code, k .longitude-size, k .set .lon0-size) depth 40 fits 20000) tt
+sub-direction-of c = let e = c .before .before in fits-is (Δ-is (start-at-else1 e)) (Δ-size e) (lit< tt)
 
 direction-of-requires : tie.Need-direction-of-requires
 direction-of-requires c κs =
-    let k = known (c .before .before) in (
-      start-at-struct-told c .pre .table,
-      k .constants .small,
-      k .constants .centre,
-      k .latitude-size,
-      rw as-size (read-size (search (code, k .longitude-size, k .set .lon0-size) depth 40 fits 20000) tt),
-    )
+    let e = c .before .before in
+    let s = start-at-else1 e in
+    let k = sound-as _ _ (s .pre .accepted) (s .pre .constants) in
+    (s .pre .table, k .small, k .centre, globe-sizes _ _ (on-it e) .0, rw (back-is (Δ-is s) (Δ-size e) (lit< tt)) (Δ-size e))
 
-direction-is : (c : tie.After-direction-of) → c .direction-of .result ≡ directionOf (constantsOf (start-at-direction-of c .args .p))
-    (start-at-direction-of c .args .lat) (start-at-direction-of c .args .lon -ℤ start-at-direction-of c .args .p .lon0)
+direction-is : (c : tie.After-direction-of) → c .direction-of .result ≡ direction (start-at-direction-of c)
 direction-is c =
-    let k = known (else1-at-direction-of c) in
-    let start = start-at-direction-of c in
+    let s = start-at-direction-of c in
     c .direction-of .ensures
-    ∙ ap₂ (λ (q : Constants) (d : ℤ). directionOf q (start .args .lat) d) (start .pre .constants)
-    (read (search (code, k .longitude-size, k .set .lon0-size) depth 40 fits 20000) tt)
+    ∙ ap₂ (λ (k : Constants). directionOf k (s .args .lat)) (s .pre .constants) (back-is (Δ-is s) (Δ-size (else1-at-direction-of c)) (lit< tt))
 
--- u, w and G, with their sizes, as they are read back
-record Seen (c : tie.After-direction-of) : Type 0 where
-  pub u-is : c .direction-of .result .u ≡ u (constantsOf (start-at-direction-of c .args .p)) (start-at-direction-of c .args .lat)
-      (start-at-direction-of c .args .lon -ℤ start-at-direction-of c .args .p .lon0)
-  pub w-is : c .direction-of .result .w ≡ w (constantsOf (start-at-direction-of c .args .p)) (start-at-direction-of c .args .lat)
-      (start-at-direction-of c .args .lon -ℤ start-at-direction-of c .args .p .lon0)
-  pub g-is : c .direction-of .result .g ≡ nearness (start-at-direction-of c .args .p) (start-at-direction-of c .args .lat) (start-at-direction-of c .args .lon)
-  pub g-size : natAbs (nearness (start-at-direction-of c .args .p) (start-at-direction-of c .args .lat) (start-at-direction-of c .args .lon)) ≤ 3_000_000_000
+nearness-size : (s : tie.Start) → natAbs (value nearness s) ≤ 3_000_000_000
+unfolding nearness
+nearness-size s = G-size _ (constants s .centre) _ _
 
-seen : (c : tie.After-direction-of) → Seen c
+g-read : (c : tie.After-direction-of) → back (c .direction-of .result .g) ≡ value nearness (start-at-direction-of c)
 unfolding directionOf nearness
-seen c =
-    let start = start-at-direction-of c in
-    record {
-      u-is = ap (λ (d : Direction). d .u) (direction-is c);
-      w-is = ap (λ (d : Direction). d .w) (direction-is c);
-      g-is = ap (λ (d : Direction). d .g) (direction-is c);
-      g-size = G-size (constantsOf (start .args .p)) (sound (start .args .p) (start .pre .accepted) .centre) (start .args .lat)
-          (start .args .lon -ℤ start .args .p .lon0);
-    }
+g-read c = back-is (ap (λ (d : Direction). d .g) (direction-is c)) (nearness-size (start-at-direction-of c)) (lit< tt)
 
-g-read : (c : tie.After-direction-of) → toZ w64 (ofZ w64 (c .direction-of .result .g)) ≡ nearness (start-at-direction-of c .args .p)
-    (start-at-direction-of c .args .lat) (start-at-direction-of c .args .lon)
-g-read c =
-    let s = seen c in
-    ap (λ (z : ℤ). toZ w64 (ofZ w64 z)) (s .g-is)
-    ∙ kept (nearness (start-at-direction-of c .args .p) (start-at-direction-of c .args .lat) (start-at-direction-of c .args .lon)) (s .g-size) (lit< tt)
+far : (c : tie.Then2) → value nearness (start-at-direction-of (c .before .before)) <ℤ pos 20_000_000
+far c = ltZ-true _ _ (rw (g-read (c .before .before)) at (c .if2 .taken))
 
 returns-2 : tie.Need-returns-2
 unfolding near-enough
 returns-2 c =
-    let below = sym (ap (λ (z : ℤ). ltZ z (pos 20_000_000)) (g-read (c .before .before))) ∙ c .if2 .taken in
-    sym (forward-too-far (start-at-then2 c .args .p) (start-at-then2 c .args .lat) (start-at-then2 c .args .lon) (start-at-then2 c .pre .accepted)
-    (on-it (else1-at-then2 c))
-    (lt-leZ (ltZ-true (nearness (start-at-then2 c .args .p) (start-at-then2 c .args .lat) (start-at-then2 c .args .lon)) (pos 20_000_000) below)))
+    let d = c .before .before in
+    sym (forward-too-far _ _ _ (start-at-direction-of d .pre .accepted) (on-it (else1-at-direction-of d)) (lt-leZ (far c)))
 
-enough : (c : tie.Else2) → pos 20_000_000 ≤ℤ nearness (start-at-else2 c .args .p) (start-at-else2 c .args .lat) (start-at-else2 c .args .lon)
-enough c = ltZ-false (nearness (start-at-else2 c .args .p) (start-at-else2 c .args .lat) (start-at-else2 c .args .lon)) (pos 20_000_000)
-    (sym (ap (λ (z : ℤ). ltZ z (pos 20_000_000)) (g-read (c .before .before))) ∙ c .if2 .left)
+enough : (c : tie.Else2) → pos 20_000_000 ≤ℤ value nearness (start-at-direction-of (c .before .before))
+enough c = ltZ-false _ _ (rw (g-read (c .before .before)) at (c .if2 .left))
 
 scale-requires : tie.Need-scale-requires
 scale-requires c κs =
-    rw (g-read (c .before .before)) (≤ℤ-trans (pos-≤ℤ (lit≤ tt)) (enough c), le-trans (seen (c .before .before) .g-size) (lit≤ tt))
+    let d = c .before .before in
+    rw (g-read d) (≤ℤ-trans (pos-≤ℤ (lit≤ tt)) (enough c), le-trans (nearness-size (start-at-direction-of d)) (lit≤ tt))
 
-scale-is : (c : tie.After-scale) → c .scale .result ≡ H (nearness (start-at-scale c .args .p) (start-at-scale c .args .lat) (start-at-scale c .args .lon))
-scale-is c = c .scale .ensures ∙ ap H (g-read (direction-of-at-scale c))
+-- a call of `coordinate` with o, r, x and the scale: what it requires holds, and its result is read back as e
+record Called (c : tie.After-scale) (o r x e : ℤ) : Type 0 where
+  pub requires : (natAbs (back o) ≤ 1_000_000_000) × (natAbs (back r) ≤ 1_080_000_000) × (natAbs (back x) ≤ 2_000_000_000)
+      × (100_000_000 ≤ c .scale .result) × (c .scale .result ≤ 1_500_000_000)
+  pub gives : {z : ℤ} → mag z < 2 ^ 63 → z ≡ back o +ℤ near (back r *ℤ back x) (c .scale .result) → back z ≡ e
 
-scale-sizes : (c : tie.After-scale) → (100_000_000 ≤ c .scale .result) × (c .scale .result ≤ 1_500_000_000)
-scale-sizes c =
-    rw (scale-is c) (
-      H-least (nearness (start-at-scale c .args .p) (start-at-scale c .args .lat) (start-at-scale c .args .lon)) (enough (c .before)),
-      H-most (nearness (start-at-scale c .args .p) (start-at-scale c .args .lat) (start-at-scale c .args .lon))
-          (le-trans (seen (direction-of-at-scale c) .g-size) (lit≤ tt)),
-    )
+-- the two calls differ in the false coordinate, the radius and the part of the direction that they take
+called : (c : tie.After-scale) (origin : Parameters → ℤ) (radius : Constants → ℤ) (part : Direction → ℤ) → let s = start-at-scale c in
+    natAbs (origin (s .args .p)) ≤ 1_000_000_000 →
+    natAbs (radius (constantsOf (s .args .p))) ≤ 1_080_000_000 →
+    natAbs (part (direction s)) ≤ 2_000_000_000 →
+    Called c (origin (s .args .p)) (radius (s .args .k)) (part (direction-of-at-scale c .direction-of .result))
+    (origin (s .args .p) +ℤ near (radius (constantsOf (s .args .p)) *ℤ part (direction s)) (H (value nearness s)))
+called c origin radius part o r x =
+    let s = start-at-scale c in
+    let origin-is = kept (origin (s .args .p)) o (lit< tt) in
+    let radius-is = back-is (ap radius (s .pre .constants)) r (lit< tt) in
+    let part-is = back-is (ap part (direction-is (direction-of-at-scale c))) x (lit< tt) in
+    let scale-is = c .scale .ensures ∙ ap H (g-read (direction-of-at-scale c)) in
+    record {
+      requires = rw (origin-is, radius-is, part-is)
+          (o, r, x, rw scale-is (H-least _ (enough (c .before))), rw scale-is (H-most _ (le-trans (nearness-size s) (lit≤ tt))));
+      gives = λ ok is. returned ok ∙ is ∙ cc;
+    }
 
--- a number that is another of at most n, as it is read back
-read-as : (r x : ℤ) {n : ℕ} → r ≡ x → natAbs x ≤ n → n ≤ 2_000_000_000 → toZ w64 (ofZ w64 r) ≡ x
-read-as r x e h l = ap (λ (z : ℤ). toZ w64 (ofZ w64 z)) e ∙ kept x (le-trans h l) (lit< tt)
+easting : (c : tie.After-scale) → let s = start-at-scale c in
+    Called c (s .args .p .«false_easting») (s .args .k .rd) (direction-of-at-scale c .direction-of .result .u) (value eastingOf s)
+unfolding eastingOf dE nearness directionOf
+easting c =
+    let s = start-at-scale c in
+    called c (λ p. p .«false_easting») (λ k. k .rd) (λ d. d .u) (set s .easting-size) (constants s .rd-between .most) (le-trans (u-size _ _ _) (lit≤ tt))
 
-u-read : (c : tie.After-direction-of) → toZ w64 (ofZ w64 (c .direction-of .result .u)) ≡ u (constantsOf (start-at-direction-of c .args .p))
-    (start-at-direction-of c .args .lat) (start-at-direction-of c .args .lon -ℤ start-at-direction-of c .args .p .lon0)
-u-read c = read-as (c .direction-of .result .u)
-    (u (constantsOf (start-at-direction-of c .args .p)) (start-at-direction-of c .args .lat)
-    (start-at-direction-of c .args .lon -ℤ start-at-direction-of c .args .p .lon0)) (seen c .u-is)
-    (u-size (constantsOf (start-at-direction-of c .args .p)) (start-at-direction-of c .args .lat)
-    (start-at-direction-of c .args .lon -ℤ start-at-direction-of c .args .p .lon0)) (lit≤ tt)
-
-w-small : (c : tie.After-direction-of) →
-    natAbs (w (constantsOf (start-at-direction-of c .args .p)) (start-at-direction-of c .args .lat)
-    (start-at-direction-of c .args .lon -ℤ start-at-direction-of c .args .p .lon0)) ≤ 2_000_000_000
-w-small c =
-    let start = start-at-direction-of c in
-    w-size (constantsOf (start .args .p)) (sound (start .args .p) (start .pre .accepted) .centre) (start .args .lat) (start .args .lon -ℤ start .args .p .lon0)
-
-w-read : (c : tie.After-direction-of) → toZ w64 (ofZ w64 (c .direction-of .result .w)) ≡ w (constantsOf (start-at-direction-of c .args .p))
-    (start-at-direction-of c .args .lat) (start-at-direction-of c .args .lon -ℤ start-at-direction-of c .args .p .lon0)
-w-read c = read-as (c .direction-of .result .w)
-    (w (constantsOf (start-at-direction-of c .args .p)) (start-at-direction-of c .args .lat)
-    (start-at-direction-of c .args .lon -ℤ start-at-direction-of c .args .p .lon0)) (seen c .w-is) (w-small c) (lit≤ tt)
-
--- a size of a number that is read back
-read-small : (z : ℤ) {n : ℕ} → natAbs z ≤ n → n ≤ 2_000_000_000 → natAbs (toZ w64 (ofZ w64 z)) ≤ n
-read-small z h l = rw (kept z (le-trans h l) (lit< tt)) h
+northing : (c : tie.After-scale) → let s = start-at-scale c in
+    Called c (s .args .p .«false_northing») (s .args .k .rn) (direction-of-at-scale c .direction-of .result .w) (value northingOf s)
+unfolding northingOf dN nearness directionOf
+northing c =
+    let s = start-at-scale c in
+    called c (λ p. p .«false_northing») (λ k. k .rn) (λ d. d .w) (set s .northing-size) (constants s .rn-between .most) (w-size _ (constants s .centre) _ _)
 
 coordinate-requires : tie.Need-coordinate-requires
-coordinate-requires c κs =
-    let k = known (else1-at-struct-told5 c) in
-    let sizes = scale-sizes (scale-at-struct-told5 c) in (
-      read-small (start-at-struct-told5 c .args .p .«false_easting») (k .set .easting-size) (lit≤ tt),
-      read-small (start-at-struct-told5 c .args .k .rd) (k .constants .rd-between .most) (lit≤ tt),
-      rw (u-read (direction-of-at-struct-told5 c))
-          (le-trans (u-size (constantsOf (start-at-struct-told5 c .args .p)) (start-at-struct-told5 c .args .lat)
-          (start-at-struct-told5 c .args .lon -ℤ start-at-struct-told5 c .args .p .lon0)) (lit≤ tt)),
-      sizes .0,
-      sizes .1,
-    )
-
--- E and N: the false coordinate and the paper's quotient
-coordinate-as : (e o o′ r r′ x x′ : ℤ) (h h′ : ℕ) → e ≡ o +ℤ near (r *ℤ x) h → o ≡ o′ → r ≡ r′ → x ≡ x′ → h ≡ h′ → e ≡ o′ +ℤ near (r′ *ℤ x′) h′
-coordinate-as e o o′ r r′ x x′ h h′ is eo er ex eh = is ∙ rw (eo, er, ex, eh)
-
-easting-is : (c : tie.After-coordinate) → c .coordinate .result ≡ start-at-coordinate c .args .p .«false_easting» +ℤ dE
-    (constantsOf (start-at-coordinate c .args .p)) (start-at-coordinate c .args .lat) (start-at-coordinate c .args .lon -ℤ start-at-coordinate c .args .p .lon0)
-unfolding dE nearness
-easting-is c =
-    let start = start-at-coordinate c in
-    let k = known (else1-at-coordinate c) in
-    coordinate-as _ _ _ _ _ _ _ _ _ (c .coordinate .ensures)
-    (kept (start .args .p .«false_easting») (k .set .easting-size) (lit< tt))
-    (kept (start .args .k .rd) (k .constants .rd-between .most) (lit< tt) ∙ ap (λ (q : Constants). q .rd) (start .pre .constants))
-    (u-read (direction-of-at-coordinate c))
-    (scale-is (scale-at-coordinate c))
+coordinate-requires c κs = easting (c .before .before .before) .requires
 
 coordinate-requires-2 : tie.Need-coordinate-requires-2
-coordinate-requires-2 c κs =
-    let k = known (else1-at-struct-told8 c) in
-    let sizes = scale-sizes (scale-at-struct-told8 c) in (
-      read-small (start-at-struct-told8 c .args .p .«false_northing») (k .set .northing-size) (lit≤ tt),
-      read-small (start-at-struct-told8 c .args .k .rn) (k .constants .rn-between .most) (lit≤ tt),
-      rw (w-read (direction-of-at-struct-told8 c)) (w-small (direction-of-at-struct-told8 c)),
-      sizes .0,
-      sizes .1,
-    )
-
-northing-is : (c : tie.After-coordinate2) → c .coordinate2 .result ≡ start-at-coordinate2 c .args .p .«false_northing» +ℤ dN
-    (constantsOf (start-at-coordinate2 c .args .p)) (start-at-coordinate2 c .args .lat)
-    (start-at-coordinate2 c .args .lon -ℤ start-at-coordinate2 c .args .p .lon0)
-unfolding dN nearness
-northing-is c =
-    let start = start-at-coordinate2 c in
-    let k = known (else1-at-coordinate2 c) in
-    coordinate-as _ _ _ _ _ _ _ _ _ (c .coordinate2 .ensures)
-    (kept (start .args .p .«false_northing») (k .set .northing-size) (lit< tt))
-    (kept (start .args .k .rn) (k .constants .rn-between .most) (lit< tt) ∙ ap (λ (q : Constants). q .rn) (start .pre .constants))
-    (w-read (direction-of-at-coordinate2 c))
-    (scale-is (scale-at-coordinate2 c))
+coordinate-requires-2 c κs = northing (scale-at-coordinate (c .before .before .before)) .requires
 
 returns-3 : tie.Need-returns-3
-unfolding near-enough eastingOf northingOf
+unfolding near-enough
 returns-3 c =
-    ap₂ Plane (returned (coordinate-at-coordinate2 c .coordinate .ok) ∙ easting-is (coordinate-at-coordinate2 c))
-    (returned (c .coordinate2 .ok) ∙ northing-is c)
-    ∙ sym (forward-plane (start-at-coordinate2 c .args .p) (start-at-coordinate2 c .args .lat) (start-at-coordinate2 c .args .lon)
-    (start-at-coordinate2 c .pre .accepted) (on-it (else1-at-coordinate2 c)) (le-leZ (enough (else2-at-coordinate2 c))))
+    let e = coordinate-at-coordinate2 c in
+    let h = scale-at-coordinate e in
+    ap₂ Plane (easting h .gives (e .coordinate .ok) (e .coordinate .ensures)) (northing h .gives (c .coordinate2 .ok) (c .coordinate2 .ensures))
+    ∙ sym (forward-plane _ _ _ (start-at-scale h .pre .accepted) (on-it (else1-at-direction-of (direction-of-at-scale h))) (le-leZ (enough (h .before))))
 
 pub forward-point-spec : {M : Type 1} → statement M
 forward-point-spec =

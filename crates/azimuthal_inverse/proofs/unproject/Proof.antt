@@ -4,133 +4,57 @@ use borrow.Author.Tests.{not-true, not-false}
 use mathlib.Core.Path.{_≡_, sym, ap, ap₂, _∙_, subst}
 use mathlib.Core.Bool.{true, false}
 use Prim.Native.Nat.{_≤_}
-use native.Mathlib.Nat.{le-trans}
+use native.Mathlib.Nat.{le-refl, le-trans}
 use lib.Dec.{lit<, lit≤}
-use lib.IntN.{ℤ, pos, natAbs, _-ℤ_, _*ℤ_}
-use lib.Signed.{_≤ℤ_, ltZ}
+use lib.IntN.{ℤ, pos, natAbs, _-ℤ_}
+use lib.Signed.{_≤ℤ_, _<ℤ_}
 use mir.Facts.{toZ-ofZ}
-use Rattle.proof_kit.proofs.Range.{code, fits, read, kept}
+use Rattle.proof_kit.proofs.Range.{kept, returned}
+use Rattle.proof_kit.proofs.Size.{abs-sub-le}
 use Rattle.proof_kit.proofs.Order.{ltZ-true, ltZ-false, lt-leZ, le-leZ, pos-≤ℤ}
-use Rattle.integers.specs.Near.{near}
-use Rattle.units.specs.Units.{half-turn, U}
-use Rattle.azimuthal_inverse.specs.declared.GeodeticAnswer.the-variants.{Position}
+use Rattle.units.specs.Units.{half-turn}
+use Rattle.units.proofs.Spans.{Between}
+use Rattle.parameters.proofs.AcceptedSet.{accepted}
+use Rattle.constants.specs.declared.Constants.{Constants}
+use Rattle.constants.proofs.ConstantsLaws.{Sound, sound-as}
+use Rattle.billionths.proofs.Calls.{back, back-is, fits-is, quotient-is}
 use Rattle.azimuthal_forward.specs.Steps.{near-enough}
+use Rattle.azimuthal_inverse.specs.declared.GeodeticAnswer.the-variants.{Position}
 use Rattle.azimuthal_inverse.specs.Steps.{versineOf, G, SmallPoint, at-origin, on-map, X, Y, K, found}
 use Rattle.azimuthal_inverse.specs.Answer.{positionOf}
-use Rattle.parameters.proofs.AcceptedSet.{accepted}
-use Rattle.units.proofs.Spans.{Between}
-use Rattle.constants.proofs.ConstantsLaws.{Sound, sound-as}
-use Rattle.billionths.proofs.Calls.{back, back-is}
 use Rattle.azimuthal_inverse.proofs.InverseLaws.{K-natural, K-near, versine-size, point-sized, OnMap, map-sizes}
 use Rattle.azimuthal_inverse.proofs.AnswerLaws.{from-origin, from-off-map, from-too-far, from-position}
 use Rattle.azimuthal_inverse.proofs.unproject.Statement.{statement}
 use Rattle.azimuthal_inverse.proofs.unproject.Tie as tie
 
--- the places that are looked back at, each from the place before it
+-- the places that the later ones look back at
 abbrev start-at-else1 : tie.Else1 → tie.Start
 start-at-else1 c = c .before .before
 
-abbrev start-at-is-on-map : tie.After-is-on-map → tie.Start
-start-at-is-on-map c = start-at-else1 (c .before)
-
-abbrev start-at-struct-told : tie.After-struct-told → tie.Start
-start-at-struct-told c = c .before .before .before .before
-
 abbrev start-at-else2 : tie.Else2 → tie.Start
-start-at-else2 c = start-at-is-on-map (c .before)
-
-abbrev start-at-then2 : tie.Then2 → tie.Start
-start-at-then2 c = start-at-is-on-map (c .before)
-
-abbrev start-at-struct-told2 : tie.After-struct-told2 → tie.Start
-start-at-struct-told2 c = start-at-else2 (c .before)
-
-abbrev start-at-quotient : tie.After-quotient → tie.Start
-start-at-quotient c = start-at-struct-told2 (c .before)
-
-abbrev start-at-struct-told3 : tie.After-struct-told3 → tie.Start
-start-at-struct-told3 c = start-at-quotient (c .before)
-
-abbrev start-at-quotient2 : tie.After-quotient2 → tie.Start
-start-at-quotient2 c = start-at-struct-told3 (c .before)
-
-abbrev start-at-versine : tie.After-versine → tie.Start
-start-at-versine c = start-at-quotient2 (c .before)
-
-abbrev start-at-then3 : tie.Then3 → tie.Start
-start-at-then3 c = start-at-versine (c .before)
-
-abbrev start-at-else3 : tie.Else3 → tie.Start
-start-at-else3 c = start-at-versine (c .before)
-
-abbrev start-at-point : tie.After-point → tie.Start
-start-at-point c = start-at-else3 (c .before .before)
-
-abbrev start-at-struct-told4 : tie.After-struct-told4 → tie.Start
-start-at-struct-told4 c = start-at-point (c .before)
-
-abbrev start-at-position : tie.After-position → tie.Start
-start-at-position c = start-at-struct-told4 (c .before)
-
-abbrev else3-at-position : tie.After-position → tie.Else3
-else3-at-position c = c .before .before .before .before
-
-abbrev quotient2-at-series : tie.After-series → tie.After-quotient2
-quotient2-at-series c = c .before .before .before
-
-abbrev quotient2-at-point : tie.After-point → tie.After-quotient2
-quotient2-at-point c = quotient2-at-series (c .before)
-
-abbrev else2-at-struct-told3 : tie.After-struct-told3 → tie.Else2
-else2-at-struct-told3 c = c .before .before .before
-
-abbrev else2-at-quotient2 : tie.After-quotient2 → tie.Else2
-else2-at-quotient2 c = else2-at-struct-told3 (c .before)
+start-at-else2 c = start-at-else1 (c .before .before)
 
 abbrev else2-at-versine : tie.After-versine → tie.Else2
-else2-at-versine c = else2-at-quotient2 (c .before)
+else2-at-versine c = c .before .before .before .before .before
 
-abbrev else2-at-then3 : tie.Then3 → tie.Else2
-else2-at-then3 c = else2-at-versine (c .before)
+abbrev start-at-versine : tie.After-versine → tie.Start
+start-at-versine c = start-at-else2 (else2-at-versine c)
 
-abbrev else2-at-series : tie.After-series → tie.Else2
-else2-at-series c = else2-at-versine (c .before .before)
+abbrev start-at-point : tie.After-point → tie.Start
+start-at-point c = start-at-versine (c .before .before .before)
 
-abbrev else2-at-point : tie.After-point → tie.Else2
-else2-at-point c = else2-at-series (c .before)
+-- a value of the paper for the constants, dE and dN that the function was given
+abbrev value : {A : Type 0} → (Constants → ℤ → ℤ → A) → tie.Start → A
+value q s = q (s .args .k) (s .args .de) (s .args .dn)
 
-abbrev else2-at-position : tie.After-position → tie.Else2
-else2-at-position c = else2-at-point (c .before .before)
+lon0-small : (s : tie.Start) → natAbs (s .args .p .lon0) ≤ half-turn
+lon0-small s = accepted _ (s .pre .0 .accepted) .lon0-size
 
-abbrev else1-at-struct-told2 : tie.After-struct-told2 → tie.Else1
-else1-at-struct-told2 c = c .before .before .before
+lon0-read : (s : tie.Start) → back (s .args .p .lon0) ≡ s .args .p .lon0
+lon0-read s = kept _ (lon0-small s) (lit< tt)
 
-abbrev else1-at-quotient : tie.After-quotient → tie.Else1
-else1-at-quotient c = else1-at-struct-told2 (c .before)
-
-abbrev else1-at-struct-told3 : tie.After-struct-told3 → tie.Else1
-else1-at-struct-told3 c = else1-at-quotient (c .before)
-
-abbrev else1-at-quotient2 : tie.After-quotient2 → tie.Else1
-else1-at-quotient2 c = else1-at-struct-told3 (c .before)
-
-abbrev else1-at-then3 : tie.Then3 → tie.Else1
-else1-at-then3 c = else1-at-quotient2 (c .before .before)
-
-abbrev else1-at-series : tie.After-series → tie.Else1
-else1-at-series c = else1-at-quotient2 (c .before .before .before)
-
-abbrev else1-at-point : tie.After-point → tie.Else1
-else1-at-point c = else1-at-series (c .before)
-
-abbrev else1-at-struct-told4 : tie.After-struct-told4 → tie.Else1
-else1-at-struct-told4 c = else1-at-point (c .before)
-
-abbrev else1-at-position : tie.After-position → tie.Else1
-else1-at-position c = else1-at-struct-told4 (c .before)
-
-abbrev is-origin-at-struct-told : tie.After-struct-told → tie.After-is-origin
-is-origin-at-struct-told c = c .before .before .before
+constants : (s : tie.Start) → Sound (s .args .k)
+constants s = sound-as _ _ (s .pre .0 .accepted) (s .pre .0 .constants)
 
 is-origin-requires : tie.Need-is-origin-requires
 is-origin-requires c κs = search needs
@@ -140,179 +64,144 @@ origin-is c = c .is-origin .ensures ∙ ap₂ at-origin (toZ-ofZ (c .before .fit
 
 returns : tie.Need-returns
 returns c =
-    let start = start-at-struct-told c in
-    ap (Position (start .args .p .lat0)) (kept (start .args .p .lon0) (accepted (start .args .p) (start .pre .0 .accepted) .lon0-size) (lit< tt))
-    ∙ sym (from-origin (start-at-struct-told c .args .p) (start-at-struct-told c .args .k) (start-at-struct-told c .args .de)
-    (start-at-struct-told c .args .dn) (sym (origin-is (is-origin-at-struct-told c)) ∙ c .before .before .if1 .taken))
+    let origin = c .before .before .before in
+    ap (Position (origin .before .args .p .lat0)) (lon0-read (origin .before))
+    ∙ sym (from-origin _ _ _ _ (sym (origin-is origin) ∙ c .before .before .if1 .taken))
 
 not-origin : (c : tie.Else1) → at-origin (start-at-else1 c .args .de) (start-at-else1 c .args .dn) ≡ false
 not-origin c = sym (origin-is (c .before)) ∙ c .if1 .left
 
-good : (c : tie.Else1) → Sound (start-at-else1 c .args .k)
-good c =
-    let start = start-at-else1 c in
-    sound-as (start .args .p) (start .args .k) (start .pre .0 .accepted) (start .pre .0 .constants)
-
 is-on-map-requires : tie.Need-is-on-map-requires
-is-on-map-requires c κs = let k = good c in (k .rd-between .most, k .rn-between .most)
+is-on-map-requires c κs = let k = constants (start-at-else1 c) in (k .rd-between .most, k .rn-between .most)
 
-map-is : (c : tie.After-is-on-map) → c .is-on-map .result ≡ on-map (start-at-is-on-map c .args .k) (start-at-is-on-map c .args .de)
-    (start-at-is-on-map c .args .dn)
+map-is : (c : tie.After-is-on-map) → c .is-on-map .result ≡ value on-map (start-at-else1 (c .before))
 map-is c =
-    let start = start-at-is-on-map c in
-    c .is-on-map .ensures ∙ ap₂ (on-map (start .args .k)) (toZ-ofZ (start .fits .de)) (toZ-ofZ (start .fits .dn))
+    let s = start-at-else1 (c .before) in
+    c .is-on-map .ensures ∙ ap₂ (on-map (s .args .k)) (toZ-ofZ (s .fits .de)) (toZ-ofZ (s .fits .dn))
 
 returns-2 : tie.Need-returns-2
 returns-2 c =
-    sym (from-off-map (start-at-then2 c .args .p) (start-at-then2 c .args .k) (start-at-then2 c .args .de) (start-at-then2 c .args .dn)
-    (not-origin (c .before .before)) (sym (map-is (c .before)) ∙ not-true (c .before .is-on-map .result) (c .if2 .taken)))
+    sym (from-off-map _ _ _ _ (not-origin (c .before .before)) (sym (map-is (c .before)) ∙ not-true (c .before .is-on-map .result) (c .if2 .taken)))
 
-on-it : (c : tie.Else2) → on-map (start-at-else2 c .args .k) (start-at-else2 c .args .de) (start-at-else2 c .args .dn) ≡ true
+on-it : (c : tie.Else2) → value on-map (start-at-else2 c) ≡ true
 on-it c = sym (map-is (c .before)) ∙ not-false (c .before .is-on-map .result) (c .if2 .left)
 
-sizes : (c : tie.Else2) → OnMap (start-at-else2 c .args .k) (start-at-else2 c .args .de) (start-at-else2 c .args .dn)
-sizes c = map-sizes (start-at-else2 c .args .k) (good (c .before .before)) (start-at-else2 c .args .de) (start-at-else2 c .args .dn) (on-it c)
+sizes : (c : tie.Else2) → let s = start-at-else2 c in OnMap (s .args .k) (s .args .de) (s .args .dn)
+sizes c = map-sizes _ (constants (start-at-else2 c)) _ _ (on-it c)
 
--- a distance and a radius, as a quotient takes them
-division : (x r : ℤ) → natAbs x ≤ 2_160_000_000 → Between r 90_909_091 1_080_000_000 →
+-- a distance and a radius are as a quotient requires them
+radius-read : {r : ℤ} → Between r 90_909_091 1_080_000_000 → back r ≡ r
+radius-read b = kept _ (b .most) (lit< tt)
+
+division : (x : ℤ) {r : ℤ} → natAbs x ≤ 2_160_000_000 → Between r 90_909_091 1_080_000_000 →
     (natAbs (back x) ≤ 2_160_000_000) × (pos 1 ≤ℤ back r) × (natAbs (back r) ≤ 2_000_000_000)
-division x r h b =
-    rw (kept x h (lit< tt), kept r (b .most) (lit< tt))
+division x h b =
+    rw (kept x h (lit< tt), radius-read b)
     (h, subst (λ (z : ℤ). pos 1 ≤ℤ z) (b .natural) (pos-≤ℤ (le-trans (lit≤ tt) (b .least))), le-trans (b .most) (lit≤ tt))
 
--- and what it gives
-divided : (q x r : ℤ) → q ≡ near (back x *ℤ U) (natAbs (back r)) → natAbs x ≤ 2_160_000_000 → Between r 90_909_091 1_080_000_000 → q ≡ near (x *ℤ U) (natAbs r)
-divided q x r e h b = e ∙ ap₂ (λ (a d : ℤ). near (a *ℤ U) (natAbs d)) (kept x h (lit< tt)) (kept r (b .most) (lit< tt))
-
 quotient-requires : tie.Need-quotient-requires
-quotient-requires c κs =
-    division (start-at-struct-told2 c .args .de) (start-at-struct-told2 c .args .k .rd) (sizes (c .before) .dE-size)
-    (good (else1-at-struct-told2 c) .rd-between)
-
-X-is : (c : tie.After-quotient) → c .quotient .result ≡ X (start-at-quotient c .args .k) (start-at-quotient c .args .de)
-unfolding X
-X-is c =
-    divided (c .quotient .result) (start-at-quotient c .args .de) (start-at-quotient c .args .k .rd) (c .quotient .ensures)
-    (sizes (c .before .before) .dE-size) (good (else1-at-quotient c) .rd-between)
+quotient-requires c κs = let s = start-at-else2 (c .before) in division (s .args .de) (sizes (c .before) .dE-size) (constants s .rd-between)
 
 quotient-requires-2 : tie.Need-quotient-requires-2
 quotient-requires-2 c κs =
-    division (start-at-struct-told3 c .args .dn) (start-at-struct-told3 c .args .k .rn) (sizes (else2-at-struct-told3 c) .dN-size)
-    (good (else1-at-struct-told3 c) .rn-between)
+    let e = c .before .before .before in
+    let s = start-at-else2 e in
+    division (s .args .dn) (sizes e .dN-size) (constants s .rn-between)
 
-Y-is : (c : tie.After-quotient2) → c .quotient2 .result ≡ Y (start-at-quotient2 c .args .k) (start-at-quotient2 c .args .dn)
-unfolding Y
-Y-is c =
-    divided (c .quotient2 .result) (start-at-quotient2 c .args .dn) (start-at-quotient2 c .args .k .rn) (c .quotient2 .ensures)
-    (sizes (else2-at-quotient2 c) .dN-size) (good (else1-at-quotient2 c) .rn-between)
+-- X and Y as they are read back, and their sizes
+record Ratios (c : tie.After-quotient2) (s : tie.Start) : Type 0 where
+  pub x-read : back (c .before .before .quotient .result) ≡ X (s .args .k) (s .args .de)
+  pub y-read : back (c .quotient2 .result) ≡ Y (s .args .k) (s .args .dn)
+  pub on-map : OnMap (s .args .k) (s .args .de) (s .args .dn)
 
--- X and Y as they are read back
-record Ratios (c : tie.After-quotient2) : Type 0 where
-  pub x-read : back (c .before .before .quotient .result) ≡ X (start-at-quotient2 c .args .k) (start-at-quotient2 c .args .de)
-  pub y-read : back (c .quotient2 .result) ≡ Y (start-at-quotient2 c .args .k) (start-at-quotient2 c .args .dn)
-
-ratios : (c : tie.After-quotient2) → Ratios c
+ratios : (c : tie.After-quotient2) → Ratios c (start-at-else2 (c .before .before .before .before))
+unfolding X Y
 ratios c =
-    let o = sizes (else2-at-quotient2 c) in
-    record { x-read = back-is (X-is (c .before .before)) (o .X-size) (lit< tt); y-read = back-is (Y-is c) (o .Y-size) (lit< tt) }
+    let x = c .before .before in
+    let s = start-at-else2 (x .before .before) in
+    record {
+      x-read = quotient-is (x .quotient .ok) (x .quotient .ensures) (toZ-ofZ (s .fits .de)) (radius-read (constants s .rd-between));
+      y-read = quotient-is (c .quotient2 .ok) (c .quotient2 .ensures) (toZ-ofZ (s .fits .dn)) (radius-read (constants s .rn-between));
+      on-map = sizes (x .before .before);
+    }
 
 versine-requires : tie.Need-versine-requires
-versine-requires c κs =
-    let o = sizes (else2-at-quotient2 c) in
-    let r = ratios c in
-    rw (r .x-read, r .y-read) (o .X-size, o .Y-size)
+versine-requires c κs = let r = ratios c in rw (r .x-read, r .y-read) (r .on-map .X-size, r .on-map .Y-size)
 
-K-is : (c : tie.After-versine) → c .versine .result ≡ K (start-at-versine c .args .k) (start-at-versine c .args .de) (start-at-versine c .args .dn)
+K-read : (c : tie.After-versine) → back (c .versine .result) ≡ value K (start-at-versine c)
 unfolding K
-K-is c =
+K-read c =
     let r = ratios (c .before) in
-    c .versine .ensures ∙ ap₂ versineOf (r .x-read) (r .y-read)
+    returned (c .versine .ok) ∙ c .versine .ensures ∙ ap₂ versineOf (r .x-read) (r .y-read)
 
-K-size : (c : tie.After-versine) → natAbs (K (start-at-versine c .args .k) (start-at-versine c .args .de) (start-at-versine c .args .dn)) ≤ 4_000_000_000
-unfolding K
-K-size c =
+G-is : (c : tie.After-versine) → pos 2_000_000_000 -ℤ back (c .versine .result) ≡ G (value K (start-at-versine c))
+unfolding G
+G-is c = ap (λ (x : ℤ). pos 2_000_000_000 -ℤ x) (K-read c)
+
+G-size : (c : tie.After-versine) → natAbs (G (value K (start-at-versine c))) ≤ 6_000_000_000
+unfolding G K
+G-size c =
     let o = sizes (else2-at-versine c) in
-    versine-size (X (start-at-versine c .args .k) (start-at-versine c .args .de)) (Y (start-at-versine c .args .k) (start-at-versine c .args .dn))
-    (o .X-size) (o .Y-size)
-
-versine-small : (c : tie.After-versine) → natAbs (c .versine .result) ≤ 4_000_000_000
-versine-small c = rw (K-is c) (K-size c)
+    abs-sub-le (pos 2_000_000_000) (value K (start-at-versine c)) (le-refl 2_000_000_000) (versine-size _ _ (o .X-size) (o .Y-size))
 
 sub-if3 : tie.Need-sub-if3
-sub-if3 c = fits (search (code, versine-small c) depth 40 fits 20000) tt
+sub-if3 c = fits-is (G-is c) (G-size c) (lit< tt)
 
-G-read : (c : tie.After-versine) →
-    back (pos 2_000_000_000 -ℤ back (c .versine .result)) ≡ G (K (start-at-versine c .args .k) (start-at-versine c .args .de) (start-at-versine c .args .dn))
-unfolding G
-G-read c = read (search (code, versine-small c) depth 40 fits 20000) tt ∙ ap (λ (x : ℤ). pos 2_000_000_000 -ℤ x) (K-is c)
+G-read : (c : tie.After-versine) → back (pos 2_000_000_000 -ℤ back (c .versine .result)) ≡ G (value K (start-at-versine c))
+G-read c = back-is (G-is c) (G-size c) (lit< tt)
+
+far : (c : tie.Then3) → G (value K (start-at-versine (c .before))) <ℤ pos 20_000_000
+far c = ltZ-true _ _ (rw (G-read (c .before)) at (c .if3 .taken))
 
 returns-3 : tie.Need-returns-3
 unfolding near-enough
 returns-3 c =
-    let below = sym (ap (λ (z : ℤ). ltZ z (pos 20_000_000)) (G-read (c .before))) ∙ c .if3 .taken in
-    sym (from-too-far (start-at-then3 c .args .p) (start-at-then3 c .args .k) (start-at-then3 c .args .de) (start-at-then3 c .args .dn)
-    (not-origin (else1-at-then3 c)) (on-it (else2-at-then3 c))
-    (lt-leZ (ltZ-true (G (K (start-at-then3 c .args .k) (start-at-then3 c .args .de) (start-at-then3 c .args .dn))) (pos 20_000_000) below)))
+    let e = else2-at-versine (c .before) in
+    sym (from-too-far _ _ _ _ (not-origin (e .before .before)) (on-it e) (lt-leZ (far c)))
 
-enough : (c : tie.Else3) → pos 20_000_000 ≤ℤ G (K (start-at-else3 c .args .k) (start-at-else3 c .args .de) (start-at-else3 c .args .dn))
-enough c = ltZ-false (G (K (start-at-else3 c .args .k) (start-at-else3 c .args .de) (start-at-else3 c .args .dn))) (pos 20_000_000)
-    (sym (ap (λ (z : ℤ). ltZ z (pos 20_000_000)) (G-read (c .before))) ∙ c .if3 .left)
+enough : (c : tie.Else3) → pos 20_000_000 ≤ℤ G (value K (start-at-versine (c .before)))
+enough c = ltZ-false _ _ (rw (G-read (c .before)) at (c .if3 .left))
 
 -- K from 0 to 1.98 U
-record Near (c : tie.Else3) : Type 0 where
-  pub k-read : back (c .before .versine .result) ≡ K (start-at-else3 c .args .k) (start-at-else3 c .args .de) (start-at-else3 c .args .dn)
-  pub least : pos 0 ≤ℤ K (start-at-else3 c .args .k) (start-at-else3 c .args .de) (start-at-else3 c .args .dn)
-  pub most : natAbs (K (start-at-else3 c .args .k) (start-at-else3 c .args .de) (start-at-else3 c .args .dn)) ≤ 1_980_000_000
-
-near-by : (c : tie.Else3) → Near c
-near-by c =
-    let k = K-near (K (start-at-else3 c .args .k) (start-at-else3 c .args .de) (start-at-else3 c .args .dn))
-    (K-natural (start-at-else3 c .args .k) (start-at-else3 c .args .de) (start-at-else3 c .args .dn)) (enough c) in
-    record { k-read = back-is (K-is (c .before)) (K-size (c .before)) (lit< tt); least = k .0; most = k .1 }
+near-by : (c : tie.Else3) → let k = value K (start-at-versine (c .before)) in (pos 0 ≤ℤ k) × (natAbs k ≤ 1_980_000_000)
+near-by c = K-near _ (K-natural _ _ _) (enough c)
 
 point-requires : tie.Need-point-requires
 point-requires c κs =
-    let o = sizes (else2-at-series c) in
-    let r = ratios (quotient2-at-series c) in
+    let versine = c .before .before in
+    let r = ratios (versine .before) in
     let k = near-by (c .before) in
-    rw (r .x-read, r .y-read, k .k-read) (good (else1-at-series c) .centre, o .X-size, o .Y-size, k .least, k .most)
+    rw (r .x-read, r .y-read, K-read versine) (constants (start-at-versine versine) .centre, r .on-map .X-size, r .on-map .Y-size, k .0, k .1)
 
-point-is : (c : tie.After-point) → c .point .result ≡ found (start-at-point c .args .k) (start-at-point c .args .de) (start-at-point c .args .dn)
+point-is : (c : tie.After-point) → c .point .result ≡ value found (start-at-point c)
 unfolding found
 point-is c =
-    let r = ratios (quotient2-at-point c) in
-    let k = near-by (c .before .before) in
-    c .point .ensures ∙ rw (r .x-read, r .y-read, k .k-read)
+    let versine = c .before .before .before in
+    let r = ratios (versine .before) in
+    c .point .ensures ∙ rw (r .x-read, r .y-read, K-read versine)
 
-found-sized : (c : tie.After-point) → SmallPoint (found (start-at-point c .args .k) (start-at-point c .args .de) (start-at-point c .args .dn))
+found-sized : (c : tie.After-point) → SmallPoint (value found (start-at-point c))
 unfolding found
 found-sized c =
-    let o = sizes (else2-at-point c) in
+    let o = sizes (else2-at-versine (c .before .before .before)) in
     let k = near-by (c .before .before) in
-    point-sized (K (start-at-point c .args .k) (start-at-point c .args .de) (start-at-point c .args .dn)) (k .least) (k .most)
-    (start-at-point c .args .k) (good (else1-at-point c) .centre) (X (start-at-point c .args .k) (start-at-point c .args .de))
-    (Y (start-at-point c .args .k) (start-at-point c .args .dn)) (o .X-size) (o .Y-size)
-
-lon0-small : (c : tie.After-point) → natAbs (start-at-point c .args .p .lon0) ≤ half-turn
-lon0-small c = accepted (start-at-point c .args .p) (start-at-point c .pre .0 .accepted) .lon0-size
+    point-sized _ (k .0) (k .1) _ (constants (start-at-point c) .centre) _ _ (o .X-size) (o .Y-size)
 
 position-requires : tie.Need-position-requires
 position-requires c κs =
-    let start = start-at-struct-told4 c in (
-      start .pre .0 .table,
-      good (else1-at-struct-told4 c) .small,
-      rw (kept (start .args .p .lon0) (lon0-small (c .before)) (lit< tt)) (lon0-small (c .before)),
-      rw (point-is (c .before)) (found-sized (c .before)),
-    )
+    let s = start-at-point (c .before) in
+    (s .pre .0 .table, constants s .small, rw (lon0-read s) (lon0-small s), rw (point-is (c .before)) (found-sized (c .before)))
 
 returns-4 : tie.Need-returns-4
 unfolding near-enough
 returns-4 c =
-    let start = start-at-position c in
+    let point = c .before .before in
+    let s = start-at-point point in
+    let near = point .before .before in
+    let e = else2-at-versine (near .before) in
     c .position .ensures
-    ∙ ap₂ (positionOf (start .args .k .series)) (kept (start .args .p .lon0) (lon0-small (c .before .before)) (lit< tt)) (point-is (c .before .before))
-    ∙ sym (from-position (start-at-position c .args .p) (start-at-position c .args .k) (start-at-position c .args .de) (start-at-position c .args .dn)
-    (not-origin (else1-at-position c)) (on-it (else2-at-position c)) (le-leZ (enough (else3-at-position c))))
+    ∙ ap₂ (positionOf (s .args .k .series)) (lon0-read s) (point-is point)
+    ∙ sym (from-position _ _ _ _ (not-origin (e .before .before)) (on-it e) (le-leZ (enough near)))
 
 pub unproject-spec : {M : Type 1} → statement M
 unproject-spec =
