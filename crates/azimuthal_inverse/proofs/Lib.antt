@@ -1,3 +1,2 @@
-pub mod AngleLaws
 pub mod InverseLaws
 pub mod AnswerLaws

@@ -16,8 +16,9 @@ use Rattle.constants.specs.Derived.{constantsOf}
 use Rattle.azimuthal_forward.specs.Steps.{near-enough}
 use Rattle.azimuthal_inverse.specs.declared.GeodeticAnswer.{GeodeticAnswer}
 use Rattle.azimuthal_inverse.specs.declared.GeodeticAnswer.the-variants.{Position, Refused}
-use Rattle.azimuthal_inverse.specs.declared.SpherePoint.{SpherePoint}
-use Rattle.azimuthal_inverse.specs.Steps.{at-origin, on-map, K, G, found, latitudeOf, longitudeOf}
+use Rattle.sphere_points.specs.declared.SpherePoint.{SpherePoint}
+use Rattle.azimuthal_inverse.specs.Steps.{at-origin, on-map, K, found}
+use Rattle.sphere_points.specs.Sphere.{G, latitudeOf, longitudeOf}
 
 -- the position of a point of the sphere
 abbrev pub positionOf : AuthalicSeries → ℤ → SpherePoint → GeodeticAnswer

@@ -1,25 +1,19 @@
 // From easting and northing back to geodetic latitude and longitude, in whole units.
-use angles::angle;
 use azimuthal_forward::LEAST_NEARNESS;
-use azimuthal_forward::scale;
-use billionths::difference;
-use billionths::product;
 use billionths::quotient;
-use billionths::sum;
 use constants::Constants;
 use constants::constants_of;
 use geodetic_search::to_geodetic;
-use integers::magnitude;
-use integers::near;
-use integers::root;
-use integers::signed;
-use latitudes::Authalic;
 use latitudes::AuthalicSeries;
 use latitudes::Geodetic;
 use parameters::Parameters;
 use sine_table::Table;
-use units::HALF_TURN;
-use units::UNIT;
+use sphere_points::SpherePoint;
+use sphere_points::TWO_UNITS;
+use sphere_points::latitude_of;
+use sphere_points::longitude_of;
+use sphere_points::point;
+use sphere_points::versine;
 use units::answers::Told;
 use units::answers::accepted;
 use units::answers::refused;
@@ -30,82 +24,19 @@ use units::refusals::TOO_FAR;
 use units::wrap;
 ghost use mathlib.Core.Path.{_≡_};
 ghost use Prim.Native.Nat.{_≤_};
-ghost use lib.IntN.{pos, natAbs};
-ghost use lib.Signed.{_≤ℤ_};
+ghost use lib.IntN.{natAbs};
 ghost use Rattle.units.specs.Units.{half-turn};
 ghost use Rattle.sine_table.specs.Table.{IsTable};
 ghost use Rattle.latitudes.specs.Latitude.{SmallSeries};
-ghost use Rattle.constants.specs.Derived.{BoundedCentre, Prepared};
-ghost use Rattle.azimuthal_inverse.specs.Steps.{versineOf, pointOf, SmallPoint, latitudeOf, longitudeOf, at-origin, on-map};
+ghost use Rattle.constants.specs.Derived.{Prepared};
+ghost use Rattle.azimuthal_inverse.specs.Steps.{at-origin, on-map};
+ghost use Rattle.sphere_points.specs.Sphere.{SmallPoint};
 ghost use Rattle.azimuthal_inverse.specs.Answer.{positionOf, answerFrom, geodetic-told, inverseOf, inverseTold};
-
-// 2 U: the versed sine of the point opposite to the centre.
-const TWO_UNITS: i64 = 2_000_000_000;
-
-const TWO_UNITS_DIVISOR: u64 = 2_000_000_000;
 
 // Latitude and longitude in mas, or the refusal number alone.
 pub enum GeodeticAnswer {
     Position { latitude: Geodetic, longitude: i64 },
     Refused(u8),
-}
-
-// A point of the unit sphere in billionths, by document 01's names: east of the centre's meridian,
-// z along the axis, f outwards at the centre's longitude.
-pub struct SpherePoint {
-    pub east: i64,
-    pub z: i64,
-    pub f: i64,
-}
-
-// K = near((X² + Y²)/(2U)): the versed sine of the distance from the centre.
-fn versine(x: i64, y: i64) -> i64
-    requires { ⌜ (natAbs x ≤ 2_000_000_000) × (natAbs y ≤ 2_000_000_000) ⌝ }
-    ensures { λ r. ⌜ r ≡ versineOf x y ⌝ }
-{
-    near(x * x + y * y, TWO_UNITS_DIVISOR)
-}
-
-// The point of the sphere of X, Y and K.
-fn point(k: Constants, x: i64, y: i64, versed: i64) -> SpherePoint
-    requires { ⌜ BoundedCentre k × (natAbs x ≤ 2_000_000_000) × (natAbs y ≤ 2_000_000_000) × (pos 0 ≤ℤ versed) × (natAbs versed ≤ 1_980_000_000) ⌝ }
-    ensures { λ s. ⌜ s ≡ pointOf k x y versed ⌝ }
-{
-    let s0 = k.s0;
-    let c0 = k.c0;
-    let h = scale(TWO_UNITS - versed) as i64;
-    let up = UNIT - versed;
-    let north = product(y, h);
-    SpherePoint {
-        east: product(x, h),
-        z: sum(up, s0, north, c0),
-        f: difference(up, c0, north, s0),
-    }
-}
-
-// β of a point.
-fn latitude_of(t: &Table, s: SpherePoint) -> Authalic
-    requires { ⌜ IsTable (now t) × SmallPoint s ⌝ }
-    ensures { λ b. ⌜ b ≡ latitudeOf s ⌝ }
-{
-    let z = s.z;
-    let east = magnitude(s.east);
-    let f = magnitude(s.f);
-    Authalic(signed(z < 0, angle(t, root(east * east + f * f), magnitude(z))))
-}
-
-// Δ of a point: |Δ| is taken from 180° where f is negative, then gets the sign of east.
-fn longitude_of(t: &Table, s: SpherePoint) -> i64
-    requires { ⌜ IsTable (now t) × SmallPoint s ⌝ }
-    ensures { λ d. ⌜ d ≡ longitudeOf s ⌝ }
-{
-    let east = s.east;
-    let f = s.f;
-    let near_side = angle(t, magnitude(f), magnitude(east));
-    if f < 0 {
-        return signed(east < 0, HALF_TURN - near_side);
-    }
-    signed(east < 0, near_side)
 }
 
 // Whether dE and dN are within twice RD and RN.

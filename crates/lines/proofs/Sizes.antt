@@ -26,10 +26,11 @@ use Rattle.azimuthal_forward.specs.Steps.{H, u, w, G, dE, dN, near-enough}
 use Rattle.azimuthal_forward.specs.Answer.{on-globe, nearness, eastingOf, northingOf, forwardOf}
 use Rattle.azimuthal_forward.proofs.ForwardLaws.{u-size, w-size, H-least}
 use Rattle.azimuthal_forward.proofs.AnswerLaws.{forward-off-globe, forward-too-far, forward-plane}
-use Rattle.azimuthal_inverse.specs.declared.SpherePoint.{SpherePoint}
-use Rattle.azimuthal_inverse.specs.Steps.{latitudeOf, longitudeOf, at-origin, on-map, K, found, G as inverseG}
+use Rattle.sphere_points.specs.declared.SpherePoint.{SpherePoint}
+use Rattle.azimuthal_inverse.specs.Steps.{at-origin, on-map, K, found}
+use Rattle.sphere_points.specs.Sphere.{latitudeOf, longitudeOf, G as inverseG}
 use Rattle.azimuthal_inverse.specs.Answer.{answerFrom, inverseOf}
-use Rattle.azimuthal_inverse.proofs.AngleLaws.{longitude-size}
+use Rattle.sphere_points.proofs.AngleLaws.{longitude-size}
 use Rattle.azimuthal_inverse.proofs.AnswerLaws.{from-origin, from-off-map, from-too-far, from-position, inverse-off-plane, inverse-on-plane}
 use Rattle.requests.specs.declared.Request.{Request}
 use Rattle.requests.specs.declared.Request.the-variants.{Forward, Inverse, Bad}

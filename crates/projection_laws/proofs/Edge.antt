@@ -22,7 +22,8 @@ use Rattle.units.specs.Spans.{within, same}
 use Rattle.parameters.specs.ParameterSet.{setRefusal}
 use Rattle.constants.specs.Derived.{RD, constantsOf}
 use Rattle.azimuthal_forward.specs.Steps.{near-enough}
-use Rattle.azimuthal_inverse.specs.Steps.{G, K, X, Y, versineOf, at-origin, on-map}
+use Rattle.azimuthal_inverse.specs.Steps.{K, X, Y, at-origin, on-map}
+use Rattle.sphere_points.specs.Sphere.{G, versineOf}
 use Rattle.azimuthal_inverse.specs.Answer.{answerFrom, inverseOf, geodetic-told}
 use Rattle.parameters.proofs.AcceptedSet.{accepted}
 use Rattle.constants.proofs.ConstantsLaws.{Sound, sound}

@@ -28,13 +28,14 @@ use Rattle.geodetic_search.specs.Reverse.{geodetic}
 use Rattle.constants.specs.Derived.{constantsOf}
 use Rattle.azimuthal_forward.specs.Steps.{b, c, u, v, w, G, dE, dN}
 use Rattle.azimuthal_forward.specs.Answer.{on-globe, nearness, forwardFar, forwardRefusal, eastingOf, northingOf, forwardOf}
-use Rattle.azimuthal_inverse.specs.Steps.{latitudeOf, longitudeOf, at-origin, found}
+use Rattle.azimuthal_inverse.specs.Steps.{at-origin, found}
+use Rattle.sphere_points.specs.Sphere.{latitudeOf, longitudeOf}
 use Rattle.azimuthal_inverse.specs.Answer.{latitudeFrom, longitudeFrom, inverseFar, inverseRefusal, inverseLatitude, inverseLongitude}
 use Rattle.azimuthal_inverse.specs.Answer.{geodetic-told, inverseOf, inverseTold}
 use Rattle.azimuthal_inverse.proofs.AnswerLaws.{inverse-tells}
 use Rattle.parameters.proofs.AcceptedSet.{Accepted, accepted as accepted-set, lat0-size}
 use Rattle.geodetic_search.proofs.GeodeticLaws.{geodetic-size}
-use Rattle.azimuthal_inverse.proofs.AngleLaws.{longitude-size}
+use Rattle.sphere_points.proofs.AngleLaws.{longitude-size}
 use Rattle.units.proofs.Spans.{wrapped-range}
 use Rattle.units.proofs.Chains.{both-passed}
 use Rattle.projection_laws.specs.Theorems.{InverseRange, HalfTurnAlike}

@@ -16,12 +16,12 @@ use Rattle.trig.specs.Sine.{sine, cosine}
 use Rattle.constants.specs.declared.Constants.{Constants}
 use Rattle.latitudes.specs.declared.Geodetic.{Geodetic}
 use Rattle.parameters.specs.declared.Parameters.{Parameters}
-use Rattle.azimuthal_inverse.specs.declared.SpherePoint.{SpherePoint}
+use Rattle.sphere_points.specs.declared.SpherePoint.{SpherePoint}
 use Rattle.latitudes.specs.Latitude.{beta}
 use Rattle.latitudes.proofs.AuthalicLaws.{beta-size}
 use Rattle.azimuthal_forward.specs.Steps.{b, c, u, v, dE, dN}
 use Rattle.azimuthal_inverse.specs.Steps.{found}
-use Rattle.azimuthal_inverse.proofs.AngleLaws.{radius}
+use Rattle.sphere_points.proofs.AngleLaws.{radius}
 use Rattle.round_trip.specs.RoundTrip.{turnGap, sharp-latitude-bound, sharp-gap-halves}
 use Rattle.round_trip.proofs.Numerals.{unit, E1, Ez, ER}
 use Rattle.round_trip.proofs.Tools.{Near, parts}

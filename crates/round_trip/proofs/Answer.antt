@@ -28,20 +28,21 @@ use Rattle.constants.specs.declared.Constants.{Constants}
 use Rattle.latitudes.specs.declared.AuthalicSeries.{AuthalicSeries}
 use Rattle.latitudes.specs.declared.Geodetic.{Geodetic}
 use Rattle.parameters.specs.declared.Parameters.{Parameters}
-use Rattle.azimuthal_inverse.specs.declared.SpherePoint.{SpherePoint}
+use Rattle.sphere_points.specs.declared.SpherePoint.{SpherePoint}
 use Rattle.azimuthal_inverse.specs.declared.GeodeticAnswer.the-variants.{Position}
 use Rattle.units.specs.Spans.{same, within, wrapped}
 use Rattle.latitudes.proofs.AuthalicLaws.{betaMas, beta-slope, beta-size}
 use Rattle.latitudes.specs.Latitude.{SmallSeries, beta}
 use Rattle.geodetic_search.specs.Reverse.{geodetic}
 use Rattle.azimuthal_forward.specs.Steps.{H, near-enough}
-use Rattle.azimuthal_inverse.specs.Steps.{versineOf, G, up, level, zOf, fOf, pointOf, X, Y, K, found, latitudeOf, longitudeOf, at-origin, on-map}
+use Rattle.azimuthal_inverse.specs.Steps.{X, Y, K, found, at-origin, on-map}
+use Rattle.sphere_points.specs.Sphere.{versineOf, G, up, level, zOf, fOf, pointOf, latitudeOf, longitudeOf}
 use Rattle.azimuthal_inverse.specs.Answer.{answerFrom}
 use Rattle.units.proofs.Spans.{Between, same-equal, wrapped-low, wrapped-high, wrapped-between}
 use Rattle.integers.proofs.Greatest.{both}
 use Rattle.constants.proofs.ConstantsLaws.{Sound}
 use Rattle.azimuthal_inverse.proofs.AnswerLaws.{from-origin, from-position}
-use Rattle.azimuthal_inverse.proofs.AngleLaws.{radius, latitude-size}
+use Rattle.sphere_points.proofs.AngleLaws.{radius, latitude-size}
 use Rattle.round_trip.specs.RoundTrip.{sharp-latitude-bound as bound}
 use Rattle.round_trip.proofs.Numerals.{unit, Eβ}
 use Rattle.round_trip.proofs.Tools.{squares}

@@ -22,7 +22,8 @@ use Rattle.parameters.specs.ParameterSet.{setRefusal}
 use Rattle.constants.specs.Derived.{β0, S0, C0, constantsOf}
 use Rattle.azimuthal_forward.specs.Steps.{c, dE, dN, near-enough}
 use Rattle.azimuthal_forward.specs.Answer.{nearness, eastingOf, northingOf, forwardOf}
-use Rattle.azimuthal_inverse.specs.Steps.{G as G′, K, on-map}
+use Rattle.azimuthal_inverse.specs.Steps.{K, on-map}
+use Rattle.sphere_points.specs.Sphere.{G as G′}
 use Rattle.azimuthal_inverse.specs.Answer.{answerFrom, inverseOf}
 use Rattle.units.proofs.Spans.{Between, size-inside}
 use Rattle.parameters.proofs.AcceptedSet.{accepted, lat0-size}

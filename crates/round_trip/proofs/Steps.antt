@@ -13,16 +13,17 @@ use Rattle.integers.specs.Near.{near}
 use Rattle.trig.specs.Sine.{sine, cosine}
 use Rattle.trig.proofs.Interface.{sine-size, cosine-size, near-circle}
 use Rattle.constants.specs.declared.Constants.{Constants}
-use Rattle.azimuthal_inverse.specs.declared.SpherePoint.{SpherePoint}
+use Rattle.sphere_points.specs.declared.SpherePoint.{SpherePoint}
 use Rattle.latitudes.specs.declared.Geodetic.{Geodetic}
 use Rattle.latitudes.specs.Latitude.{beta}
 use Rattle.units.specs.Units.{U}
 use Rattle.azimuthal_forward.specs.Steps.{H, b, c, u, v, w, G, dE, dN}
-use Rattle.azimuthal_inverse.specs.Steps.{versineOf, G as G′, up, level, zOf, fOf, pointOf, X, Y, K, found}
+use Rattle.azimuthal_inverse.specs.Steps.{X, Y, K, found}
+use Rattle.sphere_points.specs.Sphere.{versineOf, G as G′, up, level, zOf, fOf, pointOf}
 use Rattle.units.proofs.Spans.{Between}
 use Rattle.azimuthal_forward.proofs.ForwardLaws.{H-least}
 use Rattle.constants.proofs.ConstantsLaws.{Sound}
-use Rattle.azimuthal_inverse.proofs.AngleLaws.{radius}
+use Rattle.sphere_points.proofs.AngleLaws.{radius}
 use Rattle.round_trip.specs.RoundTrip.{farthest-latitude}
 use Rattle.round_trip.proofs.Numerals.{unit, least-cosine}
 use Rattle.round_trip.proofs.Tools.{Near, OnCircle}

@@ -4,7 +4,7 @@ use native.Mathlib.Nat.{mod-lt}
 use native.Mathlib.Omega.{arith}
 use lib.Dec.{eqb}
 use lib.IntN.{natAbs}
-use Rattle.azimuthal_inverse.proofs.AngleLaws.{signed-size}
+use Rattle.sphere_points.proofs.AngleLaws.{signed-size}
 use Rattle.worst_gaps.specs.Positions.{spreadOf}
 
 pub remainder : (s most : ℕ) → s % (most + 1) ≤ most

@@ -9,7 +9,7 @@ use Rattle.azimuthal_inverse.specs.declared.GeodeticAnswer.the-variants.
 use Rattle.geodetic_search.specs.Reverse.{geodetic}
 use Rattle.units.specs.Units.{half-turn}
 use Rattle.units.specs.Spans.{wrapped}
-use Rattle.azimuthal_inverse.proofs.AngleLaws.{latitude-size, longitude-size}
+use Rattle.sphere_points.proofs.AngleLaws.{latitude-size, longitude-size}
 use Rattle.azimuthal_inverse.proofs.position.Statement.{statement}
 use Rattle.azimuthal_inverse.proofs.position.Tie as tie
 

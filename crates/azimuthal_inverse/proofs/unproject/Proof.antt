@@ -20,9 +20,11 @@ use Rattle.constants.proofs.ConstantsLaws.{Sound, sound-as}
 use Rattle.billionths.proofs.Calls.{back, back-is, fits-is, quotient-is}
 use Rattle.azimuthal_forward.specs.Steps.{near-enough}
 use Rattle.azimuthal_inverse.specs.declared.GeodeticAnswer.the-variants.{Position}
-use Rattle.azimuthal_inverse.specs.Steps.{versineOf, G, SmallPoint, at-origin, on-map, X, Y, K, found}
+use Rattle.azimuthal_inverse.specs.Steps.{at-origin, on-map, X, Y, K, found}
+use Rattle.sphere_points.specs.Sphere.{versineOf, G, SmallPoint}
 use Rattle.azimuthal_inverse.specs.Answer.{positionOf}
-use Rattle.azimuthal_inverse.proofs.InverseLaws.{K-natural, K-near, versine-size, point-sized, OnMap, map-sizes}
+use Rattle.sphere_points.proofs.SphereLaws.{K-near, versine-size, point-sized}
+use Rattle.azimuthal_inverse.proofs.InverseLaws.{K-natural, OnMap, map-sizes}
 use Rattle.azimuthal_inverse.proofs.AnswerLaws.{from-origin, from-off-map, from-too-far, from-position}
 use Rattle.azimuthal_inverse.proofs.unproject.Statement.{statement}
 use Rattle.azimuthal_inverse.proofs.unproject.Tie as tie

@@ -13,9 +13,9 @@ use Rattle.proof_kit.proofs.Range.{code, returned, as-lt, lt-taken, lt-left}
 use Rattle.integers.specs.Near.{signed}
 use Rattle.units.specs.Units.{right-angle, half-turn}
 use Rattle.angles.specs.Angle.{angle}
-use Rattle.azimuthal_inverse.proofs.AngleLaws.{coordinates, angle-size, longitude-far, longitude-near}
-use Rattle.azimuthal_inverse.proofs.longitude_of.Statement.{statement}
-use Rattle.azimuthal_inverse.proofs.longitude_of.Tie as tie
+use Rattle.sphere_points.proofs.AngleLaws.{coordinates, angle-size, longitude-far, longitude-near}
+use Rattle.sphere_points.proofs.longitude_of.Statement.{statement}
+use Rattle.sphere_points.proofs.longitude_of.Tie as tie
 
 magnitude-requires : tie.Need-magnitude-requires
 magnitude-requires c κs = search needs

@@ -14,10 +14,10 @@ use Rattle.integers.specs.Near.{signed}
 use Rattle.integers.specs.Root.{root}
 use Rattle.integers.proofs.Squares.{root-most}
 use Rattle.angles.specs.Angle.{angle}
-use Rattle.azimuthal_inverse.specs.Steps.{latitudeOf}
-use Rattle.azimuthal_inverse.proofs.AngleLaws.{coordinates, radius, angle-size}
-use Rattle.azimuthal_inverse.proofs.latitude_of.Statement.{statement}
-use Rattle.azimuthal_inverse.proofs.latitude_of.Tie as tie
+use Rattle.sphere_points.specs.Sphere.{latitudeOf}
+use Rattle.sphere_points.proofs.AngleLaws.{coordinates, radius, angle-size}
+use Rattle.sphere_points.proofs.latitude_of.Statement.{statement}
+use Rattle.sphere_points.proofs.latitude_of.Tie as tie
 
 magnitude-requires : tie.Need-magnitude-requires
 magnitude-requires c κs = search needs

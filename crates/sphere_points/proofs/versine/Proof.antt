@@ -7,9 +7,9 @@ use Rattle.proof_kit.proofs.Range.{code, fits, read, read-room, returned}
 use Rattle.proof_kit.proofs.Size.{as-size}
 use Rattle.integers.specs.Near.{near}
 use Rattle.units.specs.Units.{unit}
-use Rattle.azimuthal_inverse.specs.Steps.{versineOf}
-use Rattle.azimuthal_inverse.proofs.versine.Statement.{statement}
-use Rattle.azimuthal_inverse.proofs.versine.Tie as tie
+use Rattle.sphere_points.specs.Sphere.{versineOf}
+use Rattle.sphere_points.proofs.versine.Statement.{statement}
+use Rattle.sphere_points.proofs.versine.Tie as tie
 
 mul-near : tie.Need-mul-near
 mul-near c = fits (search code depth 40 fits 20000) tt

@@ -13,11 +13,11 @@ use Rattle.proof_kit.proofs.Order.{≤ℤ-trans, pos-≤ℤ}
 use Rattle.integers.specs.Near.{near}
 use Rattle.units.specs.Units.{unit}
 use Rattle.azimuthal_forward.specs.Steps.{H}
-use Rattle.azimuthal_inverse.specs.Steps.{G, up, level, zOf, fOf, pointOf}
+use Rattle.sphere_points.specs.Sphere.{G, up, level, zOf, fOf, pointOf}
 use Rattle.billionths.proofs.Calls.{back, back-is}
-use Rattle.azimuthal_inverse.proofs.InverseLaws.{G-least, G-most, up-size, H-small, level-size, point-sized}
-use Rattle.azimuthal_inverse.proofs.point.Statement.{statement}
-use Rattle.azimuthal_inverse.proofs.point.Tie as tie
+use Rattle.sphere_points.proofs.SphereLaws.{G-least, G-most, up-size, H-small, level-size, point-sized}
+use Rattle.sphere_points.proofs.point.Statement.{statement}
+use Rattle.sphere_points.proofs.point.Tie as tie
 
 -- the places that are looked back at, each from the place before it
 abbrev start-at-struct-told2 : tie.After-struct-told2 → tie.Start

@@ -19,8 +19,8 @@ use Rattle.integers.specs.Greatest.{greatest}
 use Rattle.integers.proofs.Greatest.{greatest-le}
 use Rattle.units.specs.Units.{right-angle, half-turn}
 use Rattle.angles.specs.Angle.{under, angle}
-use Rattle.azimuthal_inverse.specs.declared.SpherePoint.{SpherePoint}
-use Rattle.azimuthal_inverse.specs.Steps.{SmallPoint, latitudeOf, longitudeOf}
+use Rattle.sphere_points.specs.declared.SpherePoint.{SpherePoint}
+use Rattle.sphere_points.specs.Sphere.{SmallPoint, latitudeOf, longitudeOf}
 
 -- ---- a point's coordinates, as the code reads them
 

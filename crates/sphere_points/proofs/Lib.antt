@@ -1,0 +1,2 @@
+pub mod AngleLaws
+pub mod SphereLaws
