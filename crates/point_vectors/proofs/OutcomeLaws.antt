@@ -14,7 +14,8 @@ use Rattle.judging.specs.Doubles.{isTold, digestOf, same}
 use Rattle.point_vectors.specs.declared.list_rows.Outcome.{Outcome}
 use Rattle.point_vectors.specs.Lists.{filled, marksOf, stepsOf, refusalOf, outcomeOf, untouchedDigest, isCounted, isRefused}
 
-module _ (p : Parameters) (forward : Bool) (a b c d e : ℕ) (x y : Float) {leading trailing : List Float} {marks : List ℕ} {answer : ListAnswer} {digest : Digest} where
+module _ (p : Parameters) (forward : Bool) (a b c d e : ℕ) (x y : Float) {leading trailing : List Float} {marks : List ℕ} {answer : ListAnswer}
+    {digest : Digest} where
   left :
       ListCall p (rowOf forward p) (take a (stepsOf x)) (take b (stepsOf y)) (take c filled) leading (take d filled) trailing (take e marksOf) marks answer →
       digest ≡ digestOf (leading ++ drop c filled) (trailing ++ drop d filled) (marks ++ drop e marksOf) →
@@ -44,6 +45,7 @@ module _ {b told alike : Bool} (found outcome : Outcome) (both : b ≡ (told && 
   pub counted-by : (n : ℕ) (right : Digest) → told ≡ isTold (found .answer) 0 n → alike ≡ same (found .digest) right → b ≡ isCounted outcome n right
   counted-by n right f g = both ∙ ap₂ _&&_ f g ∙ ap (λ (o : Outcome). isCounted o n right) is
 
-  pub refused-by : (number : ℕ) {before : Digest} → told ≡ isTold (found .answer) number 0 → alike ≡ same (found .digest) before → before ≡ untouchedDigest → b ≡ isRefused outcome number
+  pub refused-by : (number : ℕ) {before : Digest} → told ≡ isTold (found .answer) number 0 → alike ≡ same (found .digest) before →
+      before ≡ untouchedDigest → b ≡ isRefused outcome number
   refused-by number f g h =
       both ∙ ap₂ _&&_ f (g ∙ ap (same (found .digest)) h) ∙ ap (λ (o : Outcome). isRefused o number) is

@@ -73,7 +73,9 @@ pub(crate) fn run(
     trailing: &mut [f64],
     marks: &mut [u8],
 ) -> ListAnswer
-    ensures { λ r. ⌜ ListCall p (rowOf forward p) (now (xs .entry)) (now (ys .entry)) (now (leading .entry)) (now (leading .exit)) (now (trailing .entry)) (now (trailing .exit)) (now (marks .entry)) (now (marks .exit)) r ⌝ }
+    ensures { λ r. ⌜ ListCall p (rowOf forward p) (now (xs .entry)) (now (ys .entry))
+        (now (leading .entry)) (now (leading .exit)) (now (trailing .entry)) (now (trailing .exit))
+        (now (marks .entry)) (now (marks .exit)) r ⌝ }
 {
     if forward {
         return forward_list(p, xs, ys, leading, trailing, marks);

@@ -15,7 +15,8 @@ use Rattle.pairs.specs.declared.PlanePairAnswer.the-variants.{Metres, Refused}
 use Rattle.pairs.specs.declared.GeodeticPairAnswer.{GeodeticPairAnswer}
 use Rattle.pairs.specs.declared.GeodeticPairAnswer.the-variants.{Degrees, Refused as NotFound}
 use Rattle.pairs.specs.declared.Row.{Row}
-use Rattle.pairs.specs.Pairs.{latitudeMas, longitudeMas, eastingCm, northingCm, planePair, geodeticPair, acceptedRow, refusedRow, areFinite, withinGlobe, withinPlane}
+use Rattle.pairs.specs.Pairs.{latitudeMas, longitudeMas, eastingCm, northingCm, planePair, geodeticPair, acceptedRow, refusedRow}
+use Rattle.pairs.specs.Pairs.{areFinite, withinGlobe, withinPlane}
 
 -- ---- "Single points: 1, 2, 3, 4", each exactly under its condition; 4 is that of the whole-unit steps for the rounded position
 

@@ -60,9 +60,7 @@ pub const DIGEST: usize = 27;
 
 pub const UNTOUCHED: usize = 28;
 
-pub const MIXED_LIST: usize = 29;
-
-pub const ELEMENT: usize = 30;
+pub const ELEMENT: usize = 29;
 
 pub fn word(k: usize) -> usize
     ensures { λ r. ⌜ r ≡ k ⌝ }
@@ -97,7 +95,6 @@ reverse series e2
 ;
  digest
 , outputs untouched
-mixed list
    element",
         k,
     );

@@ -36,8 +36,8 @@ returns c =
     let a = all .before .before .before .args in
     c .unless2 .ensures
     ∙ ap₂ (λ (t : Bool) (n : ℕ). unless t unequal-lists n)
-    (all-equal (eqb (a .b) (a .a)) (eqb (a .c) (a .a)) (eqb (a .d) (a .a)) (eqb (a .e) (a .a)) (all .before .before .both .ensures) (all .before .both2 .ensures)
-    (all .both3 .ensures))
+    (all-equal (eqb (a .b) (a .a)) (eqb (a .c) (a .a)) (eqb (a .d) (a .a)) (eqb (a .e) (a .a)) (all .before .before .both .ensures)
+    (all .before .both2 .ensures) (all .both3 .ensures))
     (long .unless .ensures)
 
 pub length-refusal-spec : {M : Type 1} → statement M

@@ -21,7 +21,8 @@ returns c =
     let told = c .before .before in
     let call = told .before in
     let f = call .before .fits in
-    alike AnswersWhole (told .cell-told .ensures ∙ call .cell .ensures .1 ∙ rw (toZ-ofZ (f .side), toZ-ofZ (f .easting), toZ-ofZ (f .northing))) (c .answer-whole .ensures)
+    alike AnswersWhole (told .cell-told .ensures ∙ call .cell .ensures .1 ∙ rw (toZ-ofZ (f .side), toZ-ofZ (f .easting), toZ-ofZ (f .northing)))
+    (c .answer-whole .ensures)
 
 pub laea1-cell-spec : {M : Type 1} → statement M
 laea1-cell-spec = tie.close (tie.spec cell-requires cell-told-requires answer-whole-requires returns)

@@ -25,7 +25,8 @@ returns c =
     let call = told .before in
     let set = call .before in
     let f = set .before .fits in
-    alike AnswersWhole (told .plane-told .ensures ∙ call .forward .ensures .1 ∙ rw (set .parameters-of .ensures, toZ-ofZ (f .latitude), toZ-ofZ (f .longitude))) (c .answer-whole .ensures)
+    alike AnswersWhole (told .plane-told .ensures ∙ call .forward .ensures .1 ∙ rw (set .parameters-of .ensures, toZ-ofZ (f .latitude), toZ-ofZ (f .longitude)))
+    (c .answer-whole .ensures)
 
 pub laea1-forward-whole-spec : {M : Type 1} → statement M
 laea1-forward-whole-spec = tie.close (tie.spec parameters-of-requires forward-requires plane-told-requires answer-whole-requires returns)

@@ -25,7 +25,9 @@ returns c =
     let call = told .before in
     let set = call .before in
     let f = set .before .fits in
-    alike AnswersWhole (told .geodetic-told .ensures ∙ call .inverse .ensures .1 ∙ rw (set .parameters-of .ensures, toZ-ofZ (f .easting), toZ-ofZ (f .northing))) (c .answer-whole .ensures)
+    alike AnswersWhole
+    (told .geodetic-told .ensures ∙ call .inverse .ensures .1 ∙ rw (set .parameters-of .ensures, toZ-ofZ (f .easting), toZ-ofZ (f .northing)))
+    (c .answer-whole .ensures)
 
 pub laea1-inverse-whole-spec : {M : Type 1} → statement M
 laea1-inverse-whole-spec = tie.close (tie.spec parameters-of-requires inverse-requires geodetic-told-requires answer-whole-requires returns)

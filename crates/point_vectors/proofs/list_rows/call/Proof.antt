@@ -74,13 +74,19 @@ run-requires c κs = search needs
 -- a part that was lent is as long as it was, so its array is
 module _ (c : tie.After-run) where
   leading-room : room ≡ length (c .run .last .1 .1 .1 .1 .0 ++ drop (start (arrays c) .args .c) (arrays c .before .before .numbers .result))
-  leading-room = arrays c .before .before .numbers .ensures .1 ∙ sym (length-front (arrays c .before .before .numbers .result) (c .run .last .1 .1 .1 .1 .0) (start (arrays c) .args .c) (search needs))
+  leading-room =
+      arrays c .before .before .numbers .ensures .1
+      ∙ sym (length-front (arrays c .before .before .numbers .result) (c .run .last .1 .1 .1 .1 .0) (start (arrays c) .args .c) (search needs))
 
   trailing-room : room ≡ length (c .run .last .1 .1 .1 .1 .1 .0 ++ drop (start (arrays c) .args .d) (arrays c .before .numbers2 .result))
-  trailing-room = arrays c .before .numbers2 .ensures .1 ∙ sym (length-front (arrays c .before .numbers2 .result) (c .run .last .1 .1 .1 .1 .1 .0) (start (arrays c) .args .d) (search needs))
+  trailing-room =
+      arrays c .before .numbers2 .ensures .1
+      ∙ sym (length-front (arrays c .before .numbers2 .result) (c .run .last .1 .1 .1 .1 .1 .0) (start (arrays c) .args .d) (search needs))
 
   marks-room : room ≡ length (c .run .last .1 .1 .1 .1 .1 .1 .0 ++ drop (start (arrays c) .args .e) (arrays c .marks .result))
-  marks-room = arrays c .marks .ensures .1 ∙ sym (length-front (arrays c .marks .result) (c .run .last .1 .1 .1 .1 .1 .1 .0) (start (arrays c) .args .e) (search needs))
+  marks-room =
+      arrays c .marks .ensures .1
+      ∙ sym (length-front (arrays c .marks .result) (c .run .last .1 .1 .1 .1 .1 .1 .0) (start (arrays c) .args .e) (search needs))
 
 slice-aggregate-digest-of : tie.Need-slice-aggregate-digest-of
 slice-aggregate-digest-of c = leading-room (called c)

@@ -46,11 +46,9 @@ returns c =
     let made = counted .before .before in
     let start = made .before .before in
     let a = start .args in
-    let outcome = outcomeOf etrsLaea (a .forward) (a .n) (a .n) (a .n) (a .n) (a .n) (a .x-step) (a .y-step) in
-    let is =
-    made .call .ensures ∙ ap (λ (p : Parameters). outcomeOf p (a .forward) (a .n) (a .n) (a .n) (a .n) (a .n) (a .x-step) (a .y-step)) (made .before .etrs-laea .ensures)
-    in
-    counted-by (made .call .result) outcome (c .verdict .ensures ∙ c .before .both .ensures) is (a .n) (a .right)
+    let outcome = λ (p : Parameters). outcomeOf p (a .forward) (a .n) (a .n) (a .n) (a .n) (a .n) (a .x-step) (a .y-step) in
+    let is = made .call .ensures ∙ ap outcome (made .before .etrs-laea .ensures) in
+    counted-by (made .call .result) (outcome etrsLaea) (c .verdict .ensures ∙ c .before .both .ensures) is (a .n) (a .right)
     (counted .count-row .ensures)
     (compared .are-same .ensures)
 

@@ -16,7 +16,9 @@ same-length-3 : tie.Need-same-length-3
 same-length-3 c = search needs
 
 returns : tie.Need-returns
-returns c = rw (c .before .before .before .before .before .before .before .before .before .before .if1 .taken) (c .before .before .before .before .before .before .forward-list .ensures)
+returns c =
+    let call = c .before .before .before .before .before .before in
+    rw (call .before .before .before .before .if1 .taken) (call .forward-list .ensures)
 
 inverse-list-requires : tie.Need-inverse-list-requires
 inverse-list-requires c κs = search needs
@@ -31,7 +33,9 @@ same-length-6 : tie.Need-same-length-6
 same-length-6 c = search needs
 
 returns-2 : tie.Need-returns-2
-returns-2 c = rw (c .before .before .before .before .before .before .before .before .before .before .if1 .left) (c .before .before .before .before .before .before .inverse-list .ensures)
+returns-2 c =
+    let call = c .before .before .before .before .before .before in
+    rw (call .before .before .before .before .if1 .left) (call .inverse-list .ensures)
 
 pub run-spec : {M : Type 1} → statement M
 run-spec =

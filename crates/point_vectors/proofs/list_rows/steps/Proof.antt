@@ -51,7 +51,8 @@ loop-again c =
     let element = ap (λ (k : Float). mul binary64 k step) (c .nearest-u64-to-f64 .ensures) ∙ step-at room i step nan inside in (
       search needs,
       so-far .1,
-      filled-more i (stepsOf step) (turn .before .before .numbers .result) (turn .before .loop .out) nan _ (steps-length 0 room step ∙ so-far .1) (omega arith) (so-far .2) element,
+      filled-more i (stepsOf step) (turn .before .before .numbers .result) (turn .before .loop .out) nan _ (steps-length 0 room step ∙ so-far .1) (omega arith)
+          (so-far .2) element,
     )
 
 returns : tie.Need-returns Inv-loop μ-loop
