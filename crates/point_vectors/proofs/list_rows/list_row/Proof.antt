@@ -4,6 +4,7 @@ use borrow.Author.Needs.{needs}
 use mathlib.Core.Path.{ap, _∙_}
 use Rattle.parameters.specs.declared.Parameters.{Parameters}
 use Rattle.parameters.specs.ParameterSet.{etrsLaea}
+use Rattle.point_vectors.specs.declared.list_rows.Outcome.{Outcome}
 use Rattle.point_vectors.specs.Lists.{outcomeOf}
 use Rattle.point_vectors.proofs.OutcomeLaws.{counted-by}
 use Rattle.point_vectors.proofs.list_rows.list_row.Statement.{statement}
@@ -46,7 +47,7 @@ returns c =
     let made = counted .before .before in
     let start = made .before .before in
     let a = start .args in
-    let outcome = λ (p : Parameters). outcomeOf p (a .forward) (a .n) (a .n) (a .n) (a .n) (a .n) (a .x-step) (a .y-step) in
+    let outcome : Parameters → Outcome = λ p. outcomeOf p (a .forward) (a .n) (a .n) (a .n) (a .n) (a .n) (a .x-step) (a .y-step) in
     let is = made .call .ensures ∙ ap outcome (made .before .etrs-laea .ensures) in
     counted-by (made .call .result) (outcome etrsLaea) (c .verdict .ensures ∙ c .before .both .ensures) is (a .n) (a .right)
     (counted .count-row .ensures)
