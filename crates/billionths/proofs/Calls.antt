@@ -2,12 +2,14 @@
 -- Assumes nothing.
 use mathlib.Core.Path.{_≡_, ap, ap₂, _∙_}
 use Prim.Native.Nat.{ℕ, _<_, _≤_, _^_}
+use native.Mathlib.Nat.{le-trans, lt-of-le-of-lt}
+use lib.Dec.{lit<}
 use lib.IntN.{ℤ, pos, natAbs, _*ℤ_}
 use lib.Signed.{mag}
 use mir.Syntax.{w64}
 use mir.Val.{SFits, toZ, ofZ}
 use mir.Facts.{toZ-ofZ}
-use Rattle.proof_kit.proofs.Range.{small-fits, returned}
+use Rattle.proof_kit.proofs.Range.{small-fits, kept, returned}
 use Rattle.integers.specs.Near.{near}
 use Rattle.integers.specs.Root.{root}
 use Rattle.units.specs.Units.{unit, U}
@@ -37,3 +39,15 @@ module _ {r : ℤ} (ok : mag r < 2 ^ 63) where
 
   pub unit-root-is : {v x : ℤ} → r ≡ pos (root (natAbs (v *ℤ U))) → v ≡ x → back r ≡ pos (root (natAbs (x *ℤ U)))
   unit-root-is e f = returned ok ∙ e ∙ ap (λ (v : ℤ). pos (root (natAbs (v *ℤ U)))) f
+
+-- r is read back as x, and is as small as products and sums require
+pub record Holds (r x : ℤ) : Type 0 where
+  pub is : back r ≡ x
+  pub small : natAbs (back r) ≤ 2_000_000_000
+
+pub holds : {r x : ℤ} {n : ℕ} → back r ≡ x → natAbs x ≤ n → n ≤ 2_000_000_000 → Holds r x
+holds e h l = record { is = e; small = rw e (le-trans h l) }
+
+-- a number that the function was given
+pub given-holds : {x : ℤ} {n : ℕ} → natAbs x ≤ n → n ≤ 2_000_000_000 → Holds x x
+given-holds h l = holds (kept _ h (lt-of-le-of-lt l (lit< tt))) h l

@@ -1,15 +1,13 @@
 -- Laws of the angles that the inverse steps give: an angle of two numbers is at most 90°, so a latitude is too, and a longitude
 -- from the centre's is at most 180°.
 -- Assumes nothing.
-use mathlib.Core.Path.{_≡_}
+use mathlib.Core.Path.{_≡_, ap, _∙_}
 use mathlib.Core.Bool.{Bool, true, false, cond, _&&_}
-use Prim.Native.Nat.{ℕ, _-_, _≤_, zero-le}
+use Prim.Native.Nat.{ℕ, _-_, _<_, _≤_, _^_, zero-le}
 use native.Mathlib.Omega.{arith}
-use lib.Dec.{eqb, lit<}
-use lib.IntN.{pos, natAbs, _+ℤ_, _*ℤ_}
+use lib.Dec.{eqb}
+use lib.IntN.{ℤ, pos, natAbs, _+ℤ_, _*ℤ_}
 use lib.Signed.{_≤ℤ_, _<ℤ_, ltZ}
-use mir.Syntax.{w64}
-use mir.Val.{toZ, ofZ}
 use Rattle.proof_kit.proofs.Order.{le-ltZ, lt-ltZ}
 use Rattle.proof_kit.proofs.Range.{kept}
 use Rattle.proof_kit.proofs.Size.{abs-neg}
@@ -18,24 +16,20 @@ use Rattle.integers.specs.Root.{root}
 use Rattle.integers.specs.Greatest.{greatest}
 use Rattle.integers.proofs.Greatest.{greatest-le}
 use Rattle.units.specs.Units.{right-angle, half-turn}
+use Rattle.billionths.proofs.Calls.{back}
 use Rattle.angles.specs.Angle.{under, angle}
 use Rattle.sphere_points.specs.declared.SpherePoint.{SpherePoint}
-use Rattle.sphere_points.specs.Sphere.{SmallPoint, latitudeOf, longitudeOf}
+use Rattle.sphere_points.specs.Sphere.{latitudeOf, longitudeOf}
 
 -- ---- a point's coordinates, as the code reads them
 
-pub record Read (s : SpherePoint) : Type 0 where
-  pub east-read : toZ w64 (ofZ w64 (s .east)) ≡ s .east
-  pub z-read : toZ w64 (ofZ w64 (s .z)) ≡ s .z
-  pub f-read : toZ w64 (ofZ w64 (s .f)) ≡ s .f
+-- a coordinate is small enough to be read back as it was, so the code finds its size and its sign
+module _ (z : ℤ) {n : ℕ} (small : natAbs z ≤ n) (room : n < 2 ^ 63) where
+  pub magnitude-is : {r : ℕ} → r ≡ natAbs (back z) → r ≡ natAbs z
+  magnitude-is e = e ∙ ap natAbs (kept z small room)
 
-pub coordinates : (s : SpherePoint) → SmallPoint s → Read s
-coordinates s small =
-    record {
-      east-read = kept (s .east) (small .east-size) (lit< tt);
-      z-read = kept (s .z) (small .z-size) (lit< tt);
-      f-read = kept (s .f) (small .f-size) (lit< tt);
-    }
+  pub sign-is : ltZ (back z) (pos 0) ≡ ltZ z (pos 0)
+  sign-is = ap (λ (z : ℤ). ltZ z (pos 0)) (kept z small room)
 
 -- root(east² + f²): how far the point is from the axis
 abbrev pub radius : SpherePoint → ℕ

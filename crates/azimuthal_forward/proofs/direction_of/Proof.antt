@@ -2,12 +2,11 @@
 use borrow.Author.Needs.{needs}
 use mathlib.Core.Path.{_≡_, ap, _∙_}
 use Prim.Native.Nat.{_≤_}
-use native.Mathlib.Nat.{le-trans}
 use native.Mathlib.Omega.{arith}
 use lib.Dec.{lit<, lit≤}
 use lib.IntN.{ℤ, natAbs, _+ℤ_}
 use mir.Facts.{toZ-ofZ}
-use Rattle.proof_kit.proofs.Range.{kept, returned}
+use Rattle.proof_kit.proofs.Range.{returned}
 use Rattle.units.specs.Units.{unit, right-angle, U}
 use Rattle.trig.specs.Sine.{sine, cosine}
 use Rattle.trig.proofs.Interface.{sine-size, cosine-size}
@@ -16,7 +15,7 @@ use Rattle.latitudes.specs.declared.Geodetic.{Geodetic}
 use Rattle.latitudes.specs.Latitude.{beta}
 use Rattle.latitudes.proofs.AuthalicLaws.{beta-size}
 use Rattle.constants.specs.declared.Constants.{Constants}
-use Rattle.billionths.proofs.Calls.{back, back-is, fits-is, near-is, product-is}
+use Rattle.billionths.proofs.Calls.{back, back-is, fits-is, near-is, product-is, Holds, holds, given-holds}
 use Rattle.azimuthal_forward.specs.Steps
 use Rattle.azimuthal_forward.specs.Steps.{b, u, v, w, G, directionOf}
 use Rattle.azimuthal_forward.proofs.ForwardLaws.{v-size, G-size}
@@ -49,14 +48,6 @@ start-at-sum c = start-at-product2 (c .before .before)
 abbrev value : (Constants → Geodetic → ℤ → ℤ) → tie.Start → ℤ
 value q s = q (s .args .k) (s .args .lat) (s .args .d)
 
--- r is read back as x, and is as small as products and sums require
-record Holds (r x : ℤ) : Type 0 where
-  pub is : back r ≡ x
-  pub small : natAbs (back r) ≤ 2_000_000_000
-
-holds : {r x : ℤ} → back r ≡ x → natAbs x ≤ unit → Holds r x
-holds e h = record { is = e; small = rw e (le-trans h (lit≤ tt)) }
-
 to-authalic-requires : tie.Need-to-authalic-requires
 to-authalic-requires c κs = search needs
 
@@ -73,14 +64,14 @@ sine-requires c κs = (start-at-to-authalic c .pre .0, beta-small c)
 
 b-holds : (c : tie.After-sine) → Holds (c .sine .result) (value b (start-at-sine c))
 unfolding b
-b-holds c = holds (returned (c .sine .ok) ∙ c .sine .ensures ∙ ap sine (beta-is (c .before))) (sine-size _)
+b-holds c = holds (returned (c .sine .ok) ∙ c .sine .ensures ∙ ap sine (beta-is (c .before))) (sine-size _) (lit≤ tt)
 
 cosine-requires : tie.Need-cosine-requires
 cosine-requires c κs = (start-at-sine c .pre .0, beta-small (c .before))
 
 c-holds : (c : tie.After-cosine) → Holds (c .cosine .result) (value Steps.c (start-at-cosine c))
 unfolding Steps.c
-c-holds c = holds (returned (c .cosine .ok) ∙ c .cosine .ensures ∙ ap cosine (beta-is (c .before .before))) (cosine-size _)
+c-holds c = holds (returned (c .cosine .ok) ∙ c .cosine .ensures ∙ ap cosine (beta-is (c .before .before))) (cosine-size _) (lit≤ tt)
 
 cosine-requires-2 : tie.Need-cosine-requires-2
 cosine-requires-2 c κs =
@@ -88,7 +79,7 @@ cosine-requires-2 c κs =
     (s .pre .0, rw (toZ-ofZ (s .fits .d)) (omega (arith, s .pre .4)))
 
 cosine-Δ : (c : tie.After-cosine2) → Holds (c .cosine2 .result) (cosine (start-at-cosine2 c .args .d))
-cosine-Δ c = holds (returned (c .cosine2 .ok) ∙ c .cosine2 .ensures ∙ ap cosine (toZ-ofZ (start-at-cosine2 c .fits .d))) (cosine-size _)
+cosine-Δ c = holds (returned (c .cosine2 .ok) ∙ c .cosine2 .ensures ∙ ap cosine (toZ-ofZ (start-at-cosine2 c .fits .d))) (cosine-size _) (lit≤ tt)
 
 product-requires : tie.Need-product-requires
 product-requires c κs = (c-holds (c .before) .small, cosine-Δ c .small)
@@ -96,13 +87,13 @@ product-requires c κs = (c-holds (c .before) .small, cosine-Δ c .small)
 v-holds : (c : tie.After-product) → Holds (c .product .result) (value v (start-at-cosine2 (c .before)))
 unfolding v
 v-holds c =
-    holds (product-is (c .product .ok) (c .product .ensures) (c-holds (c .before .before) .is) (cosine-Δ (c .before) .is)) (v-size _ _ _)
+    holds (product-is (c .product .ok) (c .product .ensures) (c-holds (c .before .before) .is) (cosine-Δ (c .before) .is)) (v-size _ _ _) (lit≤ tt)
 
 sine-requires-2 : tie.Need-sine-requires-2
 sine-requires-2 c κs = search needs
 
 sine-Δ : (c : tie.After-sine2) → Holds (c .sine2 .result) (sine (start-at-sine2 c .args .d))
-sine-Δ c = holds (returned (c .sine2 .ok) ∙ c .sine2 .ensures ∙ ap sine (toZ-ofZ (start-at-sine2 c .fits .d))) (sine-size _)
+sine-Δ c = holds (returned (c .sine2 .ok) ∙ c .sine2 .ensures ∙ ap sine (toZ-ofZ (start-at-sine2 c .fits .d))) (sine-size _) (lit≤ tt)
 
 product-requires-2 : tie.Need-product-requires-2
 product-requires-2 c κs = (c-holds (c .before .before .before) .small, sine-Δ c .small)
@@ -122,9 +113,9 @@ taken : (c : tie.After-product2) → Taken c (start-at-product2 c)
 taken c =
     let centre = start-at-product2 c .pre .2 in
     record {
-      c0-holds = holds (kept _ (centre .c0-size) (lit< tt)) (centre .c0-size);
+      c0-holds = given-holds (centre .c0-size) (lit≤ tt);
       b-holds = b-holds (c .before .before .before .before .before);
-      s0-holds = holds (kept _ (centre .s0-size) (lit< tt)) (centre .s0-size);
+      s0-holds = given-holds (centre .s0-size) (lit≤ tt);
       v-holds = v-holds (c .before .before);
     }
 

@@ -5,7 +5,9 @@ use borrow.Author.Tests.{not-true, not-false}
 use mathlib.Core.Path.{_≡_, sym, ap₂, _∙_}
 use mathlib.Core.Bool.{true}
 use Prim.Native.Nat.{_≤_}
-use lib.IntN.{ℤ, natAbs}
+use lib.IntN.{ℤ, natAbs, _-ℤ_}
+use mir.Syntax.{w64}
+use mir.Val.{SFits}
 use mir.Facts.{toZ-ofZ}
 use Rattle.proof_kit.proofs.Range.{code, fits, read, read-size}
 use Rattle.proof_kit.proofs.Size.{as-size}
@@ -13,12 +15,18 @@ use Rattle.parameters.specs.declared.Parameters.{Parameters}
 use Rattle.constants.specs.declared.Constants.{Constants}
 use Rattle.units.specs.Units.{plane-limit}
 use Rattle.units.specs.Spans.{on-plane}
+use Rattle.billionths.proofs.Calls.{back}
+use Rattle.azimuthal_inverse.specs.declared.GeodeticAnswer.{GeodeticAnswer}
 use Rattle.azimuthal_inverse.specs.Answer.{answerFrom}
-use Rattle.parameters.proofs.AcceptedSet.{Accepted, accepted}
+use Rattle.parameters.proofs.AcceptedSet.{accepted}
 use Rattle.azimuthal_inverse.proofs.AnswerLaws.{inverse-off-plane, inverse-on-plane}
 use Rattle.units.proofs.Spans.{plane-sizes}
 use Rattle.azimuthal_inverse.proofs.inverse_point.Statement.{statement}
 use Rattle.azimuthal_inverse.proofs.inverse_point.Tie as tie
+
+-- the start of the function, as the later places look back at it
+abbrev start-at-else1 : tie.Else1 → tie.Start
+start-at-else1 c = c .before .before
 
 is-on-plane-requires : tie.Need-is-on-plane-requires
 is-on-plane-requires c κs = search needs
@@ -28,56 +36,53 @@ plane-is c = c .is-on-plane .ensures ∙ ap₂ on-plane (toZ-ofZ (c .before .fit
 
 returns : tie.Need-returns
 returns c =
-    let start = c .before .before in
-    sym (inverse-off-plane (start .args .p) (start .args .easting) (start .args .northing) (start .pre .accepted)
-    (sym (plane-is (c .before)) ∙ not-true (c .before .is-on-plane .result) (c .if1 .taken)))
+    sym (inverse-off-plane _ _ _ (c .before .before .pre .accepted) (sym (plane-is (c .before)) ∙ not-true (c .before .is-on-plane .result) (c .if1 .taken)))
 
--- a position on the plane with an accepted set
-record Known (c : tie.Else1) : Type 0 where
-  pub on-it : on-plane (c .before .before .args .easting) (c .before .before .args .northing) ≡ true
-  pub easting-size : natAbs (c .before .before .args .easting) ≤ plane-limit
-  pub northing-size : natAbs (c .before .before .args .northing) ≤ plane-limit
-  pub set : Accepted (c .before .before .args .p)
+on-it : (c : tie.Else1) → on-plane (start-at-else1 c .args .easting) (start-at-else1 c .args .northing) ≡ true
+on-it c = sym (plane-is (c .before)) ∙ not-false (c .before .is-on-plane .result) (c .if1 .left)
 
-known : (c : tie.Else1) → Known c
-known c =
-    let start = c .before .before in
-    let on = sym (plane-is (c .before)) ∙ not-false (c .before .is-on-plane .result) (c .if1 .left) in
-    let sizes = plane-sizes (start .args .easting) (start .args .northing) on in
-    record { on-it = on; easting-size = sizes .0; northing-size = sizes .1; set = accepted (start .args .p) (start .pre .accepted) }
+-- a coordinate z on the plane, counted from the false one o as the code counts it
+record Counted (z o : ℤ) : Type 0 where
+  pub within : SFits w64 (back z -ℤ back o)
+  pub small : natAbs (back (back z -ℤ back o)) ≤ 6_000_000_000
+  pub is : back (back z -ℤ back o) ≡ z -ℤ o
+
+counted : (z o : ℤ) → natAbs z ≤ plane-limit → natAbs o ≤ 1_000_000_000 → Counted z o
+counted z o h l =
+    record {
+      within = fits (search (code, h, l) depth 40 fits 20000) tt;
+      small = rw as-size (read-size (search (code, h, l) depth 40 fits 20000) tt);
+      is = read (search (code, h, l) depth 40 fits 20000) tt;
+    }
+
+easting : (c : tie.Else1) → let s = start-at-else1 c in Counted (s .args .easting) (s .args .p .«false_easting»)
+easting c = counted _ _ (plane-sizes _ _ (on-it c) .0) (accepted _ (start-at-else1 c .pre .accepted) .easting-size)
+
+northing : (c : tie.Else1) → let s = start-at-else1 c in Counted (s .args .northing) (s .args .p .«false_northing»)
+northing c = counted _ _ (plane-sizes _ _ (on-it c) .1) (accepted _ (start-at-else1 c .pre .accepted) .northing-size)
 
 sub-unproject : tie.Need-sub-unproject
-sub-unproject c =
-    let k = known (c .before .before) in
-    fits (search (code, k .easting-size, k .set .easting-size) depth 40 fits 20000) tt
+sub-unproject c = easting (c .before .before) .within
 
 sub-unproject-2 : tie.Need-sub-unproject-2
-sub-unproject-2 c =
-    let k = known (c .before .before .before .before) in
-    fits (search (code, k .northing-size, k .set .northing-size) depth 40 fits 20000) tt
+sub-unproject-2 c = northing (c .before .before .before .before) .within
 
 unproject-requires : tie.Need-unproject-requires
 unproject-requires c κs =
-    let k = known (c .before .before .before .before) in
-    let start = c .before .before .before .before .before .before in (
-      start .pre,
-      rw as-size (read-size (search (code, k .easting-size, k .set .easting-size) depth 40 fits 20000) tt),
-      rw as-size (read-size (search (code, k .northing-size, k .set .northing-size) depth 40 fits 20000) tt),
-    )
+    let e = c .before .before .before .before in
+    (start-at-else1 e .pre, easting e .small, northing e .small)
 
 -- equal constants and distances have equal answers
-from-same : (p : Parameters) (k k′ : Constants) (x x′ y y′ : ℤ) → k ≡ k′ → x ≡ x′ → y ≡ y′ → answerFrom p k x y ≡ answerFrom p k′ x′ y′
-from-same p k k′ x x′ y y′ e f g = rw (e, f, g)
+from-same : (p : Parameters) {r : GeodeticAnswer} {k k′ : Constants} {x x′ y y′ : ℤ} → r ≡ answerFrom p k x y → k ≡ k′ → x ≡ x′ → y ≡ y′ →
+    r ≡ answerFrom p k′ x′ y′
+from-same p e f g h = rw (e, f, g, h)
 
 returns-2 : tie.Need-returns-2
 returns-2 c =
-    let k = known (c .before .before .before .before .before) in
-    let start = c .before .before .before .before .before .before .before in
-    c .unproject .ensures
-    ∙ from-same _ _ _ _ _ _ _ (start .pre .constants)
-    (read (search (code, k .easting-size, k .set .easting-size) depth 40 fits 20000) tt)
-    (read (search (code, k .northing-size, k .set .northing-size) depth 40 fits 20000) tt)
-    ∙ sym (inverse-on-plane (start .args .p) (start .args .easting) (start .args .northing) (start .pre .accepted) (k .on-it))
+    let e = c .before .before .before .before .before in
+    let s = start-at-else1 e in
+    from-same (s .args .p) (c .unproject .ensures) (s .pre .constants) (easting e .is) (northing e .is)
+    ∙ sym (inverse-on-plane _ _ _ (s .pre .accepted) (on-it e))
 
 pub inverse-point-spec : {M : Type 1} → statement M
 inverse-point-spec =

@@ -1,12 +1,10 @@
 -- `versine` meets its contract: the squares and their sum are within 64 bits. Assumes nothing.
-use mathlib.Core.Path.{ap, _∙_}
 use Prim.Native.Nat.{_*_}
 use lib.Dec.{lit<}
-use lib.IntN.{ℤ}
-use Rattle.proof_kit.proofs.Range.{code, fits, read, read-room, returned}
+use Rattle.proof_kit.proofs.Range.{code, fits, read, read-room}
 use Rattle.proof_kit.proofs.Size.{as-size}
-use Rattle.integers.specs.Near.{near}
 use Rattle.units.specs.Units.{unit}
+use Rattle.billionths.proofs.Calls.{near-is}
 use Rattle.sphere_points.specs.Sphere.{versineOf}
 use Rattle.sphere_points.proofs.versine.Statement.{statement}
 use Rattle.sphere_points.proofs.versine.Tie as tie
@@ -27,7 +25,7 @@ returns : tie.Need-returns
 unfolding versineOf
 returns c =
     let given = c .before .pre in
-    returned (c .near .ok) ∙ c .near .ensures ∙ ap (λ (n : ℤ). near n (2 * unit)) (read (search (code, given .0, given .1) depth 40 fits 20000) tt)
+    near-is (c .near .ok) (2 * unit) (c .near .ensures) (read (search (code, given .0, given .1) depth 40 fits 20000) tt)
 
 pub versine-spec : {M : Type 1} → statement M
 versine-spec = tie.close (tie.spec mul-near mul-near-2 add-near near-requires returns)
