@@ -8,7 +8,8 @@ use lib.Ieee.{Float}
 use Rattle.parameters.specs.declared.Parameters.{Parameters}
 use Rattle.pairs.specs.declared.Row.{Row}
 use Rattle.point_lists.specs.declared.ListAnswer.{ListAnswer}
-use Rattle.point_lists.specs.Lists.{listRefusal, zeros, listAnswer, Counted, list-told, ListCall}
+use Rattle.row_lists.specs.Rows.{zeros}
+use Rattle.point_lists.specs.Lists.{listRefusal, listAnswer, Counted, list-told, ListCall}
 use Rattle.laea_c.specs.Calls.{Answered, countAfter, ListAnswered}
 
 -- ---- one point

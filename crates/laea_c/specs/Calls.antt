@@ -11,7 +11,8 @@ use Rattle.units.specs.declared.answers.Told.{Told}
 use Rattle.pairs.specs.declared.Row.{Row}
 use Rattle.point_lists.specs.declared.ListAnswer.{ListAnswer}
 use Rattle.point_lists.specs.declared.ListAnswer.the-variants.{Count, Refused}
-use Rattle.point_lists.specs.Lists.{written, zeros, listRefusal, listAnswer, ListCall}
+use Rattle.row_lists.specs.Rows.{zeros}
+use Rattle.point_lists.specs.Lists.{written, listRefusal, listAnswer, ListCall}
 use Rattle.laea_c.specs.declared.sets.Set.{Set}
 
 -- the version 0.2.0: 10,000 times the major number, 100 times the minor one, and the patch

@@ -5,7 +5,8 @@ use point_lists::ListAnswer;
 use point_lists::forward_list;
 use point_lists::inverse_list;
 ghost use mathlib.Core.Path.{_≡_};
-ghost use Rattle.point_lists.specs.Lists.{forwardAt, inverseAt, list-told};
+ghost use Rattle.row_lists.specs.Rows.{forwardAt, inverseAt};
+ghost use Rattle.point_lists.specs.Lists.{list-told};
 ghost use Rattle.laea_c.specs.Calls.{parametersOf, countAfter, ListAnswered};
 
 // Writes the count where there is one, and only there. Returns the refusal number; 0 is none.

@@ -14,7 +14,8 @@ use Rattle.parameters.specs.ParameterSet.{setRefusal}
 use Rattle.integers.proofs.Greatest.{both}
 use Rattle.pairs.specs.declared.Row.{Row}
 use Rattle.point_lists.specs.declared.ListAnswer.the-variants.{Count, Refused}
-use Rattle.point_lists.specs.Lists.{firstValues, secondValues, marks, lengthRefusal, listRefusal, zeros, Listed}
+use Rattle.row_lists.specs.Rows.{firstValues, secondValues, marks, zeros}
+use Rattle.point_lists.specs.Lists.{lengthRefusal, listRefusal, Listed}
 
 -- 5 comes first, so without refusal the lengths are equal
 pub equal-lengths : (a b c d e : ℕ) → lengthRefusal a b c d e ≡ 0 → (b ≡ a) × (c ≡ a) × (d ≡ a) × (e ≡ a)

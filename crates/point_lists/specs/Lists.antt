@@ -1,8 +1,8 @@
--- Document 01, "Refusal numbers": lists of pairs, forward and back.
-use Prim.Native.Nat.{ℕ, zero, suc}
+-- Document 01, "Refusal numbers": calls for lists of pairs, forward and back.
+use Prim.Native.Nat.{ℕ}
 use mathlib.Core.Path.{_≡_}
-use mathlib.Core.Bool.{Bool, true, false, _&&_}
-use mathlib.Core.List.{List, [], _∷_, map}
+use mathlib.Core.Bool.{_&&_}
+use mathlib.Core.List.{List}
 use lib.Dec.{eqb, leb}
 use lib.Ieee.{Float}
 use lib.ListN.{length}
@@ -11,41 +11,13 @@ use Rattle.units.specs.Answers.{answered}
 use Rattle.parameters.specs.declared.Parameters.{Parameters}
 use Rattle.parameters.specs.ParameterSet.{setRefusal}
 use Rattle.pairs.specs.declared.Row.{Row}
-use Rattle.pairs.specs.Pairs.{degrees, metres}
-use Rattle.points.specs.Points.{forwardRow, inverseRow}
 use Rattle.point_lists.specs.declared.ListAnswer.{ListAnswer}
 use Rattle.point_lists.specs.declared.ListAnswer.the-variants.{Count, Refused}
+use Rattle.row_lists.specs.Rows.{rows, firstValues, secondValues, marks, zeros}
 
 -- "lists longer than 4,096"
 abbrev pub longest : ℕ
 longest = 4_096
-
--- a point of a list: what the single call tells of it
-abbrev pub forwardAt : Parameters → Float → Float → Row
-forwardAt p latitude longitude = forwardRow p (degrees latitude longitude)
-
-abbrev pub inverseAt : Parameters → Float → Float → Row
-inverseAt p first second = inverseRow p (metres first second)
-
--- forward or back
-abbrev pub rowOf : Bool → Parameters → Float → Float → Row
-rowOf true = forwardAt
-rowOf false = inverseAt
-
--- the points of two lists, at each index
-abbrev pub rows : (Float → Float → Row) → List Float → List Float → List Row
-rows row [] ys = []
-rows row (x ∷ xs) [] = []
-rows row (x ∷ xs) (y ∷ ys) = row x y ∷ rows row xs ys
-
-abbrev pub firstValues : List Row → List Float
-firstValues = map (λ (r : Row). r .first)
-
-abbrev pub secondValues : List Row → List Float
-secondValues = map (λ (r : Row). r .second)
-
-abbrev pub marks : List Row → List ℕ
-marks = map (λ (r : Row). r .mark)
 
 -- 5: "lent lists of unequal length"; 6: "lists longer than 4,096"
 unfoldable pub lengthRefusal : ℕ → ℕ → ℕ → ℕ → ℕ → ℕ
@@ -56,12 +28,6 @@ lengthRefusal a b c d e =
 unfoldable pub listRefusal : Parameters → List Float → List Float → List Float → List Float → List ℕ → ℕ
 listRefusal p xs ys first second mark =
     firstOf (lengthRefusal (length xs) (length ys) (length first) (length second) (length mark)) (setRefusal p)
-
--- "the count of marks that are 0"
-abbrev pub zeros : List ℕ → ℕ
-zeros [] = 0
-zeros (zero ∷ ms) = suc (zeros ms)
-zeros (suc m ∷ ms) = zeros ms
 
 -- "Calls refused by 5, 6 or 1 write nothing": a lent list after the call, from what a call without refusal writes and what was there
 abbrev pub written : {A : Type 0} → ℕ → List A → List A → List A

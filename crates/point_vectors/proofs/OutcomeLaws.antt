@@ -8,7 +8,8 @@ use lib.Ieee.{Float}
 use lib.ListN.{take, drop}
 use Rattle.parameters.specs.declared.Parameters.{Parameters}
 use Rattle.point_lists.specs.declared.ListAnswer.{ListAnswer}
-use Rattle.point_lists.specs.Lists.{rowOf, zeros, listAnswer, ListCall}
+use Rattle.row_lists.specs.Rows.{rowOf, zeros}
+use Rattle.point_lists.specs.Lists.{listAnswer, ListCall}
 use Rattle.judging.specs.declared.doubles.Digest.{Digest}
 use Rattle.judging.specs.Doubles.{isTold, digestOf, same}
 use Rattle.point_vectors.specs.declared.list_rows.Outcome.{Outcome}

@@ -7,7 +7,8 @@ use lib.Ieee.{Float, nan, fin, binary64, mul, ofInt}
 use lib.ListN.{getD, take, drop, replicate}
 use Rattle.parameters.specs.declared.Parameters.{Parameters}
 use Rattle.pairs.specs.declared.Row.{Row}
-use Rattle.point_lists.specs.Lists.{rowOf, rows, firstValues, secondValues, marks, zeros, listRefusal, written, listAnswer}
+use Rattle.row_lists.specs.Rows.{rowOf, rows, firstValues, secondValues, marks, zeros}
+use Rattle.point_lists.specs.Lists.{listRefusal, written, listAnswer}
 use Rattle.judging.specs.declared.doubles.Digest.{Digest}
 use Rattle.judging.specs.Doubles.{isTold, digestOf, same}
 use Rattle.point_vectors.specs.declared.list_rows.Outcome.{Outcome}

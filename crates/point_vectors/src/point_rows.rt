@@ -19,7 +19,7 @@ use printing::words::word;
 ghost use mathlib.Core.Path.{_≡_};
 ghost use Rattle.judging.specs.Doubles.{alike};
 ghost use Rattle.pairs.specs.Pairs.{acceptedRow, refusedRow};
-ghost use Rattle.point_lists.specs.Lists.{rowOf};
+ghost use Rattle.row_lists.specs.Rows.{rowOf};
 
 // From degrees to metres, and back.
 pub(crate) const FORWARD: bool = true;

@@ -30,7 +30,8 @@ use Rattle.points.specs.Points.{pairRefusal}
 use Rattle.points.specs.Points.{forwardPairRefusal, forwardPair, forwardDegrees, forwardRow, inversePairRefusal, inversePair, inverseMetres, inverseRow}
 use Rattle.points.proofs.AnswerLaws.{forward-tells, inverse-tells}
 use Rattle.point_lists.specs.declared.ListAnswer.the-variants.{Refused}
-use Rattle.point_lists.specs.Lists.{rowOf, lengthRefusal, listRefusal, zeros, listAnswer}
+use Rattle.row_lists.specs.Rows.{rowOf, zeros}
+use Rattle.point_lists.specs.Lists.{lengthRefusal, listRefusal, listAnswer}
 use Rattle.points_laws.specs.Refusals.{point-refusals, pair-refusals, list-refusals, ForwardNumbers, InverseNumbers, ForwardRefused, InverseRefused}
 use Rattle.points_laws.specs.Refusals.{MarkedAt, MarkNumbers, ListNumbers, ListRefusedNumbers, ForwardFarExactly, InverseFarExactly}
 use Rattle.points_laws.specs.Refusals.{ForwardDecided, InverseDecided}

@@ -17,7 +17,7 @@ use Rattle.pairs.specs.Pairs.{degrees, metres, latitudeMas, longitudeMas, easti
 use Rattle.pairs.specs.Pairs.{plane-row, geodetic-row, inDegrees}
 use Rattle.points.specs.Points.{forwardDegrees, inverseMetres}
 use Rattle.points.proofs.AnswerLaws.{forward-tells, inverse-tells, inverse-converted}
-use Rattle.point_lists.specs.Lists.{forwardAt, inverseAt}
+use Rattle.row_lists.specs.Rows.{forwardAt, inverseAt}
 use Rattle.points_laws.specs.Theorems.{rowAt}
 use Rattle.points_laws.specs.RoundTrip.{PairCloseTo, FloatRoundTrip}
 use Rattle.points_laws.specs.RoundTrip.{CentreForwardAt, CentreInverseAt, CentreForwardListed, CentreInverseListed, ListRoundTrip}

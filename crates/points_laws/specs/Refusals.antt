@@ -27,7 +27,8 @@ use Rattle.pairs.specs.Pairs.{acceptedRow, plane-row, geodetic-row}
 use Rattle.points.specs.Points.{forwardPairRefusal, forwardDegrees, inversePairRefusal, inverseMetres}
 use Rattle.point_lists.specs.declared.ListAnswer.{ListAnswer}
 use Rattle.point_lists.specs.declared.ListAnswer.the-variants.{Refused}
-use Rattle.point_lists.specs.Lists.{rowOf, listRefusal, ListCall}
+use Rattle.row_lists.specs.Rows.{rowOf}
+use Rattle.point_lists.specs.Lists.{listRefusal, ListCall}
 use Rattle.points_laws.specs.Theorems.{AtEachIndex}
 
 -- ---- which numbers there are: "Order: lists 5, 6, 1, then each point 2, 3, 4 .. Single points: 1, 2, 3, 4." 0 is none.

@@ -21,7 +21,8 @@ use Rattle.point_lists.specs.declared.ListAnswer.{ListAnswer}
 use Rattle.pairs.specs.Pairs.{degrees, metres, latitudeMas, longitudeMas, planePair, geodeticPair}
 use Rattle.pairs.specs.Pairs.{plane-row, geodetic-row}
 use Rattle.points.specs.Points.{forwardDegrees, inverseMetres}
-use Rattle.point_lists.specs.Lists.{forwardAt, inverseAt, listRefusal, ListCall}
+use Rattle.row_lists.specs.Rows.{forwardAt, inverseAt}
+use Rattle.point_lists.specs.Lists.{listRefusal, ListCall}
 use Rattle.points_laws.specs.Theorems.{AtEachIndex}
 
 -- ---- demand 3

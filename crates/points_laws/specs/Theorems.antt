@@ -28,7 +28,8 @@ use Rattle.point_lists.specs.declared.ListAnswer.the-variants.{Count, Refused}
 use Rattle.pairs.specs.Pairs.{degrees, metres, latitudeMas, longitudeMas, eastingCm, northingCm, planePair, geodeticPair, zeroFloat}
 use Rattle.pairs.specs.Pairs.{plane-row, geodetic-row, inMetres, inDegrees}
 use Rattle.points.specs.Points.{forwardDegrees, inverseMetres}
-use Rattle.point_lists.specs.Lists.{forwardAt, inverseAt, listRefusal, zeros, ListCall}
+use Rattle.row_lists.specs.Rows.{forwardAt, inverseAt, zeros}
+use Rattle.point_lists.specs.Lists.{listRefusal, ListCall}
 
 -- ---- accepted answers of single calls
 

@@ -7,7 +7,7 @@ use native.Mathlib.Nat.{le-antisymm}
 use native.Mathlib.Omega.{arith}
 use lib.Ieee.{Float, nan, binary64, mul}
 use lib.ListN.{length}
-use Rattle.point_lists.proofs.ListLaws.{filled, filled-more, filled-all}
+use Rattle.row_lists.proofs.ListLaws.{filled, filled-more, filled-all}
 use Rattle.point_vectors.specs.Lists.{room, stepsOf}
 use Rattle.point_vectors.proofs.StepLaws.{steps-length, step-at}
 use Rattle.point_vectors.proofs.list_rows.steps.Statement.{statement}

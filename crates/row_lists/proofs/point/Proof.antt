@@ -4,9 +4,9 @@ use mathlib.Core.Path.{sym, ap, _∙_}
 use mathlib.Core.Bool.{Bool}
 use Rattle.pairs.specs.Pairs.{plane-row, geodetic-row, degrees, metres}
 use Rattle.points.proofs.AnswerLaws.{forward-tells, inverse-tells}
-use Rattle.point_lists.specs.Lists.{rowOf}
-use Rattle.point_lists.proofs.point.Statement.{statement}
-use Rattle.point_lists.proofs.point.Tie as tie
+use Rattle.row_lists.specs.Rows.{rowOf}
+use Rattle.row_lists.proofs.point.Statement.{statement}
+use Rattle.row_lists.proofs.point.Tie as tie
 
 forward-pair-requires : tie.Need-forward-pair-requires
 forward-pair-requires c κs = search needs

@@ -7,10 +7,10 @@ use native.Mathlib.Omega.{arith}
 use lib.Ieee.{Float, nan}
 use lib.ListN.{length}
 use Rattle.pairs.specs.declared.Row.{Row}
-use Rattle.point_lists.specs.Lists.{rowOf, rows, firstValues, secondValues, marks as marksOf}
-use Rattle.point_lists.proofs.ListLaws.{filled, Filling, kept-length, room-left, stored, finished}
-use Rattle.point_lists.proofs.fill.Statement.{statement}
-use Rattle.point_lists.proofs.fill.Tie as tie
+use Rattle.row_lists.specs.Rows.{rowOf, rows, firstValues, secondValues, marks as marksOf}
+use Rattle.row_lists.proofs.ListLaws.{filled, Filling, kept-length, room-left, stored, finished}
+use Rattle.row_lists.proofs.fill.Statement.{statement}
+use Rattle.row_lists.proofs.fill.Tie as tie
 
 abbrev Inv-loop : tie.InvT-loop
 Inv-loop t p k forward xs ys leading₀ trailing₀ marks₀ i₀ leading trailing marks i =

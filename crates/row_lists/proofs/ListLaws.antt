@@ -8,7 +8,7 @@ use native.Mathlib.Omega.{arith}
 use lib.Ieee.{Float, nan}
 use lib.ListN.{length, getD, set, take, drop}
 use Rattle.pairs.specs.declared.Row.{Row}
-use Rattle.point_lists.specs.Lists.{rows, zeros}
+use Rattle.row_lists.specs.Rows.{rows, zeros}
 
 -- after i stores, from the front, of the elements of `new` into a list
 module _ {A : Type 0} where

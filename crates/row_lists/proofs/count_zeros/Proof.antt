@@ -5,10 +5,10 @@ use Prim.Native.Nat.{ℕ, _≤_, _+_, _-_}
 use native.Mathlib.Nat.{le-antisymm}
 use native.Mathlib.Omega.{arith}
 use lib.ListN.{length, drop}
-use Rattle.point_lists.specs.Lists.{zeros}
-use Rattle.point_lists.proofs.ListLaws.{zeros-most, zeros-past, zero-counted, other-not-counted}
-use Rattle.point_lists.proofs.count_zeros.Statement.{statement}
-use Rattle.point_lists.proofs.count_zeros.Tie as tie
+use Rattle.row_lists.specs.Rows.{zeros}
+use Rattle.row_lists.proofs.ListLaws.{zeros-most, zeros-past, zero-counted, other-not-counted}
+use Rattle.row_lists.proofs.count_zeros.Statement.{statement}
+use Rattle.row_lists.proofs.count_zeros.Tie as tie
 
 abbrev Inv-loop : tie.InvT-loop
 Inv-loop marks n₀ i₀ n i = (i ≤ length marks) × (n + zeros (drop i marks) ≡ zeros marks)
