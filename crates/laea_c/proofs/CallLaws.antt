@@ -1,27 +1,17 @@
--- Calls for one point write the two values exactly where the number they return is 0, so what they wrote is what their answer tells; and equal
--- answers are written alike. Calls for lists return what the library's answer tells, which its own statement settles. Assumes nothing.
-use mathlib.Core.Path.{_≡_, refl, sym, ap, subst, _∙_}
-use mathlib.Core.List.{List, [], _∷_}
-use Prim.Native.Nat.{ℕ, zero, suc}
-use native.Mathlib.Omega.{arith}
+-- Equal answers are written alike; calls for lists return what the library's answer tells, which its own statement settles. Assumes nothing.
+use mathlib.Core.Path.{_≡_, sym, ap, subst, _∙_}
+use mathlib.Core.List.{List}
+use Prim.Native.Nat.{ℕ, zero}
 use lib.Ieee.{Float}
 use Rattle.parameters.specs.declared.Parameters.{Parameters}
 use Rattle.pairs.specs.declared.Row.{Row}
 use Rattle.point_lists.specs.declared.ListAnswer.{ListAnswer}
 use Rattle.row_lists.specs.Rows.{zeros}
 use Rattle.point_lists.specs.Lists.{listRefusal, listAnswer, Counted, list-told, ListCall}
-use Rattle.laea_c.specs.Calls.{Answered, countAfter, ListAnswered}
+use Rattle.c_answers.specs.Answers.{countAfter}
+use Rattle.laea_c.specs.Calls.{ListAnswered}
 
 -- ---- one point
-
-module _ {A : Type 0} {first second : A} {out : List A} where
-  pub accepted-answer : {x y : A} (refusal : ℕ) → refusal ≡ 0 → x ≡ first → y ≡ second → Answered refusal first second out (x ∷ y ∷ []) refusal
-  accepted-answer zero e f s = record { result-is = refl; out-is = rw (f, s) }
-  accepted-answer (suc n) e f s = let z : ⊥ = omega (arith, e) in absurd z
-
-  pub refused-answer : (refusal : ℕ) → (refusal ≡ 0 → ⊥) → Answered refusal first second out out refusal
-  refused-answer zero some = absurd (some refl)
-  refused-answer (suc n) some = record { result-is = refl; out-is = refl }
 
 -- an answer by an equal one
 pub alike : {A B : Type 0} (Says : B → List A → List A → ℕ → Type 0) {a b : B} {out out′ : List A} {r : ℕ} → a ≡ b → Says a out out′ r →

@@ -1,26 +1,17 @@
 // One point, in degrees and metres.
 use crate::sets::Set;
 use crate::sets::parameters_of;
+use c_answers::answer_floats;
 use pairs::GeodeticPair;
 use pairs::PlanePair;
-use pairs::Row;
 use pairs::geodetic_row;
 use pairs::plane_row;
 use points::forward_degrees;
 use points::inverse_metres;
 ghost use Rattle.pairs.specs.Pairs.{degrees, metres};
 ghost use Rattle.points.specs.Points.{forwardRow, inverseRow};
-ghost use Rattle.laea_c.specs.Calls.{parametersOf, AnswersFloats};
-
-// Writes the two values where the refusal number is 0, and only there. Returns the number.
-fn answer_floats(answer: Row, out: &mut [f64; 2]) -> u8
-    ensures { λ r. ⌜ AnswersFloats answer (now (out .entry)) (now (out .exit)) r ⌝ }
-{
-    if answer.mark == 0 {
-        *out = [answer.first, answer.second];
-    }
-    answer.mark
-}
+ghost use Rattle.c_answers.specs.Answers.{AnswersFloats};
+ghost use Rattle.laea_c.specs.Calls.{parametersOf};
 
 // Degrees to metres: easting and northing.
 #[no_mangle]

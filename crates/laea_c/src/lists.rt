@@ -1,27 +1,11 @@
 // Lists of points, in degrees and metres.
 use crate::sets::Set;
 use crate::sets::parameters_of;
-use point_lists::ListAnswer;
+use c_answers::answer_list;
 use point_lists::forward_list;
 use point_lists::inverse_list;
-ghost use mathlib.Core.Path.{_≡_};
 ghost use Rattle.row_lists.specs.Rows.{forwardAt, inverseAt};
-ghost use Rattle.point_lists.specs.Lists.{list-told};
-ghost use Rattle.laea_c.specs.Calls.{parametersOf, countAfter, ListAnswered};
-
-// Writes the count where there is one, and only there. Returns the refusal number; 0 is none.
-fn answer_list(answer: ListAnswer, count: &mut u64) -> u8
-    ensures { λ r. ⌜ r ≡ list-told answer .refusal ⌝ }
-    ensures { λ _. ⌜ now (count .exit) ≡ countAfter answer (now (count .entry)) ⌝ }
-{
-    match answer {
-        ListAnswer::Count(points) => {
-            *count = points;
-            0
-        }
-        ListAnswer::Refused(number) => number,
-    }
-}
+ghost use Rattle.laea_c.specs.Calls.{parametersOf, ListAnswered};
 
 // Degrees to metres.
 #[no_mangle]

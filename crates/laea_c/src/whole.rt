@@ -5,24 +5,15 @@ use azimuthal_forward::forward;
 use azimuthal_forward::plane_told;
 use azimuthal_inverse::geodetic_told;
 use azimuthal_inverse::inverse;
+use c_answers::answer_whole;
 use cells::cell;
 use cells::cell_told;
 use latitudes::Geodetic;
-use units::answers::Told;
 ghost use Rattle.cells.specs.Cells.{cellTold};
 ghost use Rattle.azimuthal_forward.specs.Answer.{forwardTold};
 ghost use Rattle.azimuthal_inverse.specs.Answer.{inverseTold};
-ghost use Rattle.laea_c.specs.Calls.{parametersOf, AnswersWhole};
-
-// Writes the two values where the refusal number is 0, and only there. Returns the number.
-fn answer_whole(answer: Told, out: &mut [i64; 2]) -> u8
-    ensures { λ r. ⌜ AnswersWhole answer (now (out .entry)) (now (out .exit)) r ⌝ }
-{
-    if answer.refusal == 0 {
-        *out = [answer.first, answer.second];
-    }
-    answer.refusal
-}
+ghost use Rattle.c_answers.specs.Answers.{AnswersWhole};
+ghost use Rattle.laea_c.specs.Calls.{parametersOf};
 
 // mas to cm: easting and northing.
 #[no_mangle]

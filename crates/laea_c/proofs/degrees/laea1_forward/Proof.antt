@@ -4,7 +4,7 @@ use mathlib.Core.Path.{ap, _∙_}
 use Rattle.parameters.specs.declared.Parameters.{Parameters}
 use Rattle.pairs.specs.Pairs.{degrees}
 use Rattle.points.specs.Points.{forwardRow}
-use Rattle.laea_c.specs.Calls.{AnswersFloats}
+use Rattle.c_answers.specs.Answers.{AnswersFloats}
 use Rattle.laea_c.proofs.CallLaws.{alike}
 use Rattle.laea_c.proofs.degrees.laea1_forward.Statement.{statement}
 use Rattle.laea_c.proofs.degrees.laea1_forward.Tie as tie

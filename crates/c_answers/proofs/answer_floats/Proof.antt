@@ -1,8 +1,8 @@
 -- The values are written in the arm where the number is 0, and nothing in the other. Assumes nothing.
 use mathlib.Core.Path.{refl}
-use Rattle.laea_c.proofs.CallLaws.{accepted-answer, refused-answer}
-use Rattle.laea_c.proofs.degrees.answer_floats.Statement.{statement}
-use Rattle.laea_c.proofs.degrees.answer_floats.Tie as tie
+use Rattle.c_answers.proofs.WritingLaws.{accepted-answer, refused-answer}
+use Rattle.c_answers.proofs.answer_floats.Statement.{statement}
+use Rattle.c_answers.proofs.answer_floats.Tie as tie
 
 returns : tie.Need-returns
 returns c = accepted-answer _ (c .before .if1 .taken) refl refl

@@ -1,9 +1,9 @@
 -- The values are written in the arm where the number is 0, and nothing in the other. Assumes nothing.
 use borrow.Author.Needs.{needs}
 use mir.Facts.{toZ-ofZ}
-use Rattle.laea_c.proofs.CallLaws.{accepted-answer, refused-answer}
-use Rattle.laea_c.proofs.whole.answer_whole.Statement.{statement}
-use Rattle.laea_c.proofs.whole.answer_whole.Tie as tie
+use Rattle.c_answers.proofs.WritingLaws.{accepted-answer, refused-answer}
+use Rattle.c_answers.proofs.answer_whole.Statement.{statement}
+use Rattle.c_answers.proofs.answer_whole.Tie as tie
 
 returns : tie.Need-returns
 returns c = accepted-answer _ (c .before .before .if1 .taken) (toZ-ofZ (search needs)) (toZ-ofZ (search needs))

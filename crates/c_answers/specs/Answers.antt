@@ -1,0 +1,30 @@
+-- What the functions for C return and write, from what the library's answer tells.
+-- A lent array is the list of its values: of the whole numbers themselves (ℤ) where it is of i64.
+use Prim.Native.Nat.{ℕ}
+use mathlib.Core.Path.{_≡_}
+use mathlib.Core.List.{List, [], _∷_}
+use lib.IntN.{ℤ}
+use lib.Ieee.{Float}
+use Rattle.units.specs.declared.answers.Told.{Told}
+use Rattle.pairs.specs.declared.Row.{Row}
+use Rattle.point_lists.specs.declared.ListAnswer.{ListAnswer}
+use Rattle.point_lists.specs.declared.ListAnswer.the-variants.{Count, Refused}
+use Rattle.point_lists.specs.Lists.{written}
+
+-- A call for a single answer: it returns the refusal number; `out` has the two values where that is 0, else what it had.
+pub record Answered {A : Type 0} (refusal : ℕ) (first second : A) (out out′ : List A) (r : ℕ) : Type 0 where
+  pub result-is : r ≡ refusal
+  pub out-is : out′ ≡ written refusal (first ∷ second ∷ []) out
+
+-- an answer in degrees or metres
+abbrev pub AnswersFloats : Row → (out out′ : List Float) → ℕ → Type 0
+AnswersFloats answer = Answered (answer .mark) (answer .first) (answer .second)
+
+-- an answer in whole numbers
+abbrev pub AnswersWhole : Told → (out out′ : List ℤ) → ℕ → Type 0
+AnswersWhole answer = Answered (answer .refusal) (answer .first) (answer .second)
+
+-- the count after a call with this answer: the answer's, or what it was
+abbrev pub countAfter : ListAnswer → ℕ → ℕ
+countAfter (Count count) before = count
+countAfter (Refused number) before = before

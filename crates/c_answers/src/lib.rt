@@ -1,0 +1,41 @@
+// What a call for C writes and returns, from what the library's answer tells.
+use pairs::Row;
+use point_lists::ListAnswer;
+use units::answers::Told;
+ghost use mathlib.Core.Path.{_≡_};
+ghost use Rattle.point_lists.specs.Lists.{list-told};
+ghost use Rattle.c_answers.specs.Answers.{AnswersFloats, AnswersWhole, countAfter};
+
+// Writes the two values where the refusal number is 0, and only there. Returns the number.
+pub fn answer_floats(row: Row, out: &mut [f64; 2]) -> u8
+    ensures { λ r. ⌜ AnswersFloats row (now (out .entry)) (now (out .exit)) r ⌝ }
+{
+    if row.mark == 0 {
+        *out = [row.first, row.second];
+    }
+    row.mark
+}
+
+// The same of an answer in whole numbers.
+pub fn answer_whole(told: Told, out: &mut [i64; 2]) -> u8
+    ensures { λ r. ⌜ AnswersWhole told (now (out .entry)) (now (out .exit)) r ⌝ }
+{
+    if told.refusal == 0 {
+        *out = [told.first, told.second];
+    }
+    told.refusal
+}
+
+// Writes the count where there is one, and only there. Returns the refusal number; 0 is none.
+pub fn answer_list(answer: ListAnswer, count: &mut u64) -> u8
+    ensures { λ r. ⌜ r ≡ list-told answer .refusal ⌝ }
+    ensures { λ _. ⌜ now (count .exit) ≡ countAfter answer (now (count .entry)) ⌝ }
+{
+    match answer {
+        ListAnswer::Count(points) => {
+            *count = points;
+            0
+        }
+        ListAnswer::Refused(number) => number,
+    }
+}
