@@ -20,6 +20,57 @@ use Rattle.billionths.proofs.Calls.{back, product-is, quotient-is}
 use Rattle.constants.proofs.constants_of.Statement.{statement}
 use Rattle.constants.proofs.constants_of.Tie as tie
 
+-- ---- where the code stands: the start of the function, from each call
+
+abbrev from-product : tie.After-product → tie.Start
+from-product c = c .before .before .before
+
+abbrev from-product2 : tie.After-product2 → tie.Start
+from-product2 c = from-product (c .before)
+
+abbrev from-radius : tie.After-radius-ratio → tie.Start
+from-radius c = from-product2 (c .before)
+
+abbrev from-series : tie.After-series → tie.Start
+from-series c = from-radius (c .before)
+
+abbrev from-authalic : tie.After-to-authalic → tie.Start
+from-authalic c = from-series (c .before)
+
+abbrev from-cosine : tie.After-cosine → tie.Start
+from-cosine c = from-authalic (c .before)
+
+abbrev from-axis : tie.After-axis-ratio → tie.Start
+from-axis c = from-cosine (c .before)
+
+-- and the calls whose results are taken again later
+abbrev radius-at-cosine : tie.After-cosine → tie.After-radius-ratio
+radius-at-cosine c = c .before .before .before
+
+abbrev axis-at-product3 : tie.After-product3 → tie.After-axis-ratio
+axis-at-product3 c = c .before .before
+
+abbrev from-product3 : tie.After-product3 → tie.Start
+from-product3 c = from-axis (axis-at-product3 c)
+
+abbrev cosine-at-product3 : tie.After-product3 → tie.After-cosine
+cosine-at-product3 c = axis-at-product3 c .before
+
+abbrev authalic-at-product3 : tie.After-product3 → tie.After-to-authalic
+authalic-at-product3 c = cosine-at-product3 c .before
+
+abbrev from-sine : tie.After-sine → tie.Start
+from-sine c = from-product3 (c .before)
+
+abbrev from-product4 : tie.After-product4 → tie.Start
+from-product4 c = from-sine (c .before)
+
+abbrev product3-at-product4 : tie.After-product4 → tie.After-product3
+product3-at-product4 c = c .before .before
+
+abbrev from-quotient : tie.After-quotient → tie.Start
+from-quotient c = from-product4 (c .before)
+
 -- ---- the set
 
 set : (c : tie.Start) → Accepted (c .args .p)
@@ -42,59 +93,53 @@ a-is c = kept (c .args .p .a) (set c .a-between .most) (lit< tt)
 product-requires : tie.Need-product-requires
 product-requires c κs = let start = c .before .before in rw (e2-is start) (omega (arith, e2-size start))
 
-e4-is : (c : tie.After-product) → back (c .product .result) ≡ e4 (c .before .before .before .args .p .e2)
+e4-is : (c : tie.After-product) → back (c .product .result) ≡ e4 (from-product c .args .p .e2)
 unfolding e4
-e4-is c =
-    let start = c .before .before .before in
-    product-is (c .product .ok) (c .product .ensures) (e2-is start) (e2-is start)
+e4-is c = product-is (c .product .ok) (c .product .ensures) (e2-is (from-product c)) (e2-is (from-product c))
 
 product-requires-2 : tie.Need-product-requires-2
 product-requires-2 c κs =
-    let start = c .before .before .before in
+    let start = from-product c in
     rw (e4-is c, e2-is start) (omega (arith, e4-size (start .args .p .e2) (e2-size start)), omega (arith, e2-size start))
 
-e6-is : (c : tie.After-product2) → back (c .product2 .result) ≡ e6 (c .before .before .before .before .args .p .e2)
+e6-is : (c : tie.After-product2) → back (c .product2 .result) ≡ e6 (from-product2 c .args .p .e2)
 unfolding e6
-e6-is c = product-is (c .product2 .ok) (c .product2 .ensures) (e4-is (c .before)) (e2-is (c .before .before .before .before))
+e6-is c = product-is (c .product2 .ok) (c .product2 .ensures) (e4-is (c .before)) (e2-is (from-product2 c))
 
 radius-ratio-requires : tie.Need-radius-ratio-requires
 radius-ratio-requires c κs =
-    let start = c .before .before .before .before in
+    let start = from-product2 c in
     rw (e2-is start) (e2-size start, e4-is (c .before), e6-is c)
 
-j-is : (c : tie.After-radius-ratio) → back (c .radius-ratio .result) ≡ J (c .before .before .before .before .before .args .p .e2)
-j-is c = returned (c .radius-ratio .ok) ∙ c .radius-ratio .ensures ∙ ap J (e2-is (c .before .before .before .before .before))
+j-is : (c : tie.After-radius-ratio) → back (c .radius-ratio .result) ≡ J (from-radius c .args .p .e2)
+j-is c = returned (c .radius-ratio .ok) ∙ c .radius-ratio .ensures ∙ ap J (e2-is (from-radius c))
 
 series-requires : tie.Need-series-requires
 series-requires c κs = radius-ratio-requires (c .before) κs
 
-series-is : (c : tie.After-series) → c .series .result ≡ seriesOf (c .before .before .before .before .before .before .args .p .e2)
-series-is c = c .series .ensures ∙ ap seriesOf (e2-is (c .before .before .before .before .before .before))
+series-is : (c : tie.After-series) → c .series .result ≡ seriesOf (from-series c .args .p .e2)
+series-is c = c .series .ensures ∙ ap seriesOf (e2-is (from-series c))
 
 -- ---- β0, S0 and C0
 
 to-authalic-requires : tie.Need-to-authalic-requires
 to-authalic-requires c κs =
-    let start = c .before .before .before .before .before .before in
+    let start = from-series c in
     (start .pre .0, rw (series-is c) (series-small (start .args .p .e2) (e2-size start)), φ0-size start)
 
-β0-is : (c : tie.After-to-authalic) → c .to-authalic .result ≡ β0 (c .before .before .before .before .before .before .before .args .p .e2)
-    (c .before .before .before .before .before .before .before .args .p .lat0)
+β0-is : (c : tie.After-to-authalic) → let p = from-authalic c .args .p in c .to-authalic .result ≡ β0 (p .e2) (p .lat0)
 unfolding β0
-β0-is c =
-    let start = c .before .before .before .before .before .before .before in
-    c .to-authalic .ensures ∙ ap (λ (k : AuthalicSeries). beta k (start .args .p .lat0)) (series-is (c .before))
+β0-is c = c .to-authalic .ensures ∙ ap (λ (k : AuthalicSeries). beta k (from-authalic c .args .p .lat0)) (series-is (c .before))
 
 β0-within : (c : tie.After-to-authalic) → natAbs (c .to-authalic .result .0) ≤ right-angle
 β0-within c =
-    let start = c .before .before .before .before .before .before .before in
+    let start = from-authalic c in
     rw (β0-is c) (β0-size (start .args .p .e2) (start .args .p .lat0) (e2-size start) (φ0-size start))
 
 cosine-requires : tie.Need-cosine-requires
-cosine-requires c κs = (c .before .before .before .before .before .before .before .pre .0, β0-within c)
+cosine-requires c κs = (from-authalic c .pre .0, β0-within c)
 
-c0-is : (c : tie.After-cosine) → back (c .cosine .result) ≡ C0 (c .before .before .before .before .before .before .before .before .args .p .e2)
-    (c .before .before .before .before .before .before .before .before .args .p .lat0)
+c0-is : (c : tie.After-cosine) → let p = from-cosine c .args .p in back (c .cosine .result) ≡ C0 (p .e2) (p .lat0)
 unfolding C0
 c0-is c = returned (c .cosine .ok) ∙ c .cosine .ensures ∙ ap (λ (b : Authalic). cosine (b .0)) (β0-is (c .before))
 
@@ -102,76 +147,70 @@ c0-is c = returned (c .cosine .ok) ∙ c .cosine .ensures ∙ ap (λ (b : Authal
 
 axis-ratio-requires : tie.Need-axis-ratio-requires
 axis-ratio-requires c κs =
-    let start = c .before .before .before .before .before .before .before .before in
-    rw (e2-is start) (start .pre .0, e2-size start, set start .lat0-accepted, j-is (c .before .before .before), c0-is c)
+    let start = from-cosine c in
+    rw (e2-is start) (start .pre .0, e2-size start, set start .lat0-accepted, j-is (radius-at-cosine c), c0-is c)
 
-d-is : (c : tie.After-axis-ratio) →
-    back (c .axis-ratio .result) ≡ D (c .before .before .before .before .before .before .before .before .before .args .p .e2)
-    (c .before .before .before .before .before .before .before .before .before .args .p .lat0)
+d-is : (c : tie.After-axis-ratio) → let p = from-axis c .args .p in back (c .axis-ratio .result) ≡ D (p .e2) (p .lat0)
 d-is c =
-    let start = c .before .before .before .before .before .before .before .before .before in
-    returned (c .axis-ratio .ok) ∙ c .axis-ratio .ensures ∙ ap (λ (e2 : ℤ). D e2 (start .args .p .lat0)) (e2-is start)
+    returned (c .axis-ratio .ok) ∙ c .axis-ratio .ensures ∙ ap (λ (e2 : ℤ). D e2 (from-axis c .args .p .lat0)) (e2-is (from-axis c))
 
 d-between : (c : tie.Start) → Between (D (c .args .p .e2) (c .args .p .lat0)) 930_000_000 1_070_000_000
 d-between c = D-between (c .args .p .e2) (c .args .p .lat0) (e2-size c) (set c .lat0-accepted)
 
 product-requires-3 : tie.Need-product-requires-3
 product-requires-3 c κs =
-    let start = c .before .before .before .before .before .before .before .before .before .before in
-    rw (a-is start, j-is (c .before .before .before .before .before))
+    let axis = c .before in
+    let start = from-axis axis in
+    rw (a-is start, j-is (radius-at-cosine (axis .before)))
     (omega (arith, set start .a-between .most), omega (arith, J-high (start .args .p .e2) (e2-size start)))
 
-rq-is : (c : tie.After-product3) →
-    back (c .product3 .result) ≡ Rq (c .before .before .before .before .before .before .before .before .before .before .before .args .p)
+rq-is : (c : tie.After-product3) → back (c .product3 .result) ≡ Rq (from-product3 c .args .p)
 unfolding Rq
-rq-is c = product-is (c .product3 .ok) (c .product3 .ensures)
-    (a-is (c .before .before .before .before .before .before .before .before .before .before .before))
-    (j-is (c .before .before .before .before .before .before))
+rq-is c = product-is (c .product3 .ok) (c .product3 .ensures) (a-is (from-product3 c)) (j-is (radius-at-cosine (cosine-at-product3 c)))
 
 -- ---- the fields
 
 sine-requires : tie.Need-sine-requires
-sine-requires c κs = (
-  c .before .before .before .before .before .before .before .before .before .before .before .pre .0,
-  β0-within (c .before .before .before .before),
-)
+sine-requires c κs = (from-product3 c .pre .0, β0-within (authalic-at-product3 c))
 
-s0-is : (c : tie.After-sine) →
-    back (c .sine .result) ≡ S0 (c .before .before .before .before .before .before .before .before .before .before .before .before .args .p .e2)
-    (c .before .before .before .before .before .before .before .before .before .before .before .before .args .p .lat0)
+s0-is : (c : tie.After-sine) → let p = from-sine c .args .p in back (c .sine .result) ≡ S0 (p .e2) (p .lat0)
 unfolding S0
-s0-is c = returned (c .sine .ok) ∙ c .sine .ensures ∙ ap (λ (b : Authalic). sine (b .0)) (β0-is (c .before .before .before .before .before))
+s0-is c = returned (c .sine .ok) ∙ c .sine .ensures ∙ ap (λ (b : Authalic). sine (b .0)) (β0-is (authalic-at-product3 (c .before)))
 
 product-requires-4 : tie.Need-product-requires-4
 product-requires-4 c κs =
-    let start = c .before .before .before .before .before .before .before .before .before .before .before .before in
-    rw (rq-is (c .before), d-is (c .before .before .before))
+    let start = from-sine c in
+    rw (rq-is (c .before), d-is (axis-at-product3 (c .before)))
     (omega (arith, Rq-between (start .args .p) (set start) .most), omega (arith, d-between start .most))
 
-rd-is : (c : tie.After-product4) →
-    back (c .product4 .result) ≡ RD (c .before .before .before .before .before .before .before .before .before .before .before .before .before .args .p)
+rd-is : (c : tie.After-product4) → back (c .product4 .result) ≡ RD (from-product4 c .args .p)
 unfolding RD
-rd-is c = product-is (c .product4 .ok) (c .product4 .ensures) (rq-is (c .before .before)) (d-is (c .before .before .before .before))
+rd-is c =
+    let before = product3-at-product4 c in
+    product-is (c .product4 .ok) (c .product4 .ensures) (rq-is before) (d-is (axis-at-product3 before))
 
 quotient-requires : tie.Need-quotient-requires
 quotient-requires c κs =
-    let start = c .before .before .before .before .before .before .before .before .before .before .before .before .before in
+    let start = from-product4 c in
+    let before = product3-at-product4 c in
     let d = d-between start in
-    rw (rq-is (c .before .before), d-is (c .before .before .before .before))
+    rw (rq-is before, d-is (axis-at-product3 before))
     (omega (arith, Rq-between (start .args .p) (set start) .most), at-least 1 (d .natural) (omega arith), omega arith)
 
-rn-is : (c : tie.After-quotient) →
-    back (c .quotient .result) ≡ RN (c .before .before .before .before .before .before .before .before .before .before .before .before .before .before .args .p)
+rn-is : (c : tie.After-quotient) → back (c .quotient .result) ≡ RN (from-quotient c .args .p)
 unfolding RN
-rn-is c = quotient-is (c .quotient .ok) (c .quotient .ensures) (rq-is (c .before .before .before)) (d-is (c .before .before .before .before .before))
+rn-is c =
+    let before = product3-at-product4 (c .before) in
+    quotient-is (c .quotient .ok) (c .quotient .ensures) (rq-is before) (d-is (axis-at-product3 before))
 
 returns : tie.Need-returns
 unfolding constantsOf
 returns c =
+    let before = product3-at-product4 (c .before) in
     rw (
-      series-is (c .before .before .before .before .before .before .before .before),
+      series-is (authalic-at-product3 before .before),
       s0-is (c .before .before),
-      c0-is (c .before .before .before .before .before .before),
+      c0-is (cosine-at-product3 before),
       rd-is (c .before),
       rn-is c,
     )

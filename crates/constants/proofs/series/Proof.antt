@@ -33,6 +33,13 @@ k2-small c = k2-size (c .args .e2) (c .pre .0)
 k4-small : (c : tie.Start) → natAbs (k4 (c .args .e2)) ≤ 4_770
 k4-small c = k4-size (c .args .e2) (c .pre .0)
 
+-- the start of the function, from the last calls of k4 and k6
+abbrev from-near5 : tie.After-near5 → tie.Start
+from-near5 c = c .before .before .before .before .before
+
+abbrev from-near6 : tie.After-near6 → tie.Start
+from-near6 c = from-near5 (c .before)
+
 -- ---- k2
 
 near-requires : tie.Need-near-requires
@@ -95,34 +102,34 @@ near-requires-5 c κs =
     let s = sizes (c .before .before .before .before) in
     (lit< tt, rw as-size (read-room 630 (search code depth 40 fits 20000) tt))
 
-k4-is : (c : tie.After-near5) → back (c .before .near4 .result) +ℤ back (c .near5 .result) ≡ k4 (c .before .before .before .before .before .args .e2)
+k4-is : (c : tie.After-near5) → back (c .before .near4 .result) +ℤ back (c .near5 .result) ≡ k4 (from-near5 c .args .e2)
 unfolding k4
 k4-is c =
-    let start = c .before .before .before .before .before in
+    let start = from-near5 c in
     let s = sizes start in
     ap₂ _+ℤ_
     (near-is (c .before .near4 .ok) 360 (c .before .near4 .ensures) (read (search code depth 40 fits 20000) tt ∙ ap (λ (z : ℤ). pos 17 *ℤ z) (start .pre .1)))
     (near-is (c .near5 .ok) 1260 (c .near5 .ensures) (read (search code depth 40 fits 20000) tt ∙ ap (λ (z : ℤ). pos 61 *ℤ z) (start .pre .2)))
 
 add-k4 : tie.Need-add-k4
-add-k4 c = fits-is (k4-is c) (k4-small (c .before .before .before .before .before)) (lit< tt)
+add-k4 c = fits-is (k4-is c) (k4-small (from-near5 c)) (lit< tt)
 
 -- ---- k6
 
 mul-near-5 : tie.Need-mul-near-5
 mul-near-5 c =
-    let s = sizes (c .before .before .before .before .before) in
+    let s = sizes (from-near5 c) in
     fits (search code depth 40 fits 20000) tt
 
 near-requires-6 : tie.Need-near-requires-6
 near-requires-6 c κs =
-    let s = sizes (c .before .before .before .before .before) in
+    let s = sizes (from-near5 c) in
     (lit< tt, rw as-size (read-room 22_680 (search code depth 40 fits 20000) tt))
 
-k6-is : (c : tie.After-near6) → back (c .near6 .result) ≡ k6 (c .before .before .before .before .before .before .args .e2)
+k6-is : (c : tie.After-near6) → back (c .near6 .result) ≡ k6 (from-near6 c .args .e2)
 unfolding k6
 k6-is c =
-    let start = c .before .before .before .before .before .before in
+    let start = from-near6 c in
     let s = sizes start in
     near-is (c .near6 .ok) 45360 (c .near6 .ensures) (read (search code depth 40 fits 20000) tt ∙ ap (λ (z : ℤ). pos 383 *ℤ z) (start .pre .2))
 
@@ -130,24 +137,24 @@ k6-is c =
 
 in-mas-requires : tie.Need-in-mas-requires
 in-mas-requires c κs =
-    let size = k2-small (c .before .before .before .before .before .before) in
+    let size = k2-small (from-near6 c) in
     rw (back-is (k2-is (c .before .before .before)) size (lit< tt)) (omega (arith, size))
 
 in-mas-requires-2 : tie.Need-in-mas-requires-2
 in-mas-requires-2 c κs =
-    let size = k4-small (c .before .before .before .before .before .before .before) in
+    let size = k4-small (from-near6 (c .before)) in
     rw (back-is (k4-is (c .before .before)) size (lit< tt)) (omega (arith, size))
 
 in-mas-requires-3 : tie.Need-in-mas-requires-3
 in-mas-requires-3 c κs =
-    let start = c .before .before .before .before .before .before .before .before in
+    let start = from-near6 (c .before .before) in
     rw (k6-is (c .before .before)) (omega (arith, k6-size (start .args .e2) (start .pre .0)))
 
 returns : tie.Need-returns
 unfolding seriesOf
 returns c =
-    let start = c .before .before .before .before .before .before .before .before .before in
     let six = c .before .before .before in
+    let start = from-near6 six in
     rw (
       returned (c .before .before .in-mas .ok) ∙ c .before .before .in-mas .ensures
           ∙ ap to-mas (back-is (k2-is (six .before .before .before)) (k2-small start) (lit< tt)),

@@ -9,25 +9,33 @@ use Rattle.point_lists.proofs.ListedLaws.{equal-lengths, refused-by-len
 use Rattle.point_lists.proofs.list.Statement.{statement}
 use Rattle.point_lists.proofs.list.Tie as tie
 
+-- where the code stands: past the test of the lengths, past that of the set, and at its start
+abbrev start : tie.After-length-refusal → tie.Start
+start c = c .before .before .before .before .before .before
+
+abbrev start-at-else1 : tie.Else1 → tie.Start
+start-at-else1 c = start (c .before)
+
+abbrev else1 : tie.Else2 → tie.Else1
+else1 c = c .before .before
+
 length-refusal-requires : tie.Need-length-refusal-requires
 length-refusal-requires c κs = search needs
 
 returns : tie.Need-returns
 returns c =
-    let start = c .before .before .before .before .before .before .before in
     let refusal = c .before .length-refusal in
     listed-refused (refusal .result) (c .if1 .taken)
-    (refused-by-lengths (start .args .p) (now (start .args .xs)) (now (start .args .ys)) (now (start .args .leading)) (now (start .args .trailing))
-    (now (start .args .marks)) (refusal .result) (c .if1 .taken) (refusal .ensures))
+    (refused-by-lengths _ _ _ _ _ _ (refusal .result) (c .if1 .taken) (refusal .ensures))
 
 -- past the first test the lists' lengths are accepted, past the second the set
 lengths-accepted :
     (c : tie.Else1) →
-    let a = c .before .before .before .before .before .before .before .args in
+    let a = start-at-else1 c .args in
     lengthRefusal (length (now (a .xs))) (length (now (a .ys))) (length (now (a .leading))) (length (now (a .trailing))) (length (now (a .marks))) ≡ 0
 lengths-accepted c = sym (c .before .length-refusal .ensures) ∙ c .if1 .left
 
-set-accepted : (c : tie.Else2) → setRefusal (c .before .before .before .before .before .before .before .before .before .args .p) ≡ 0
+set-accepted : (c : tie.Else2) → setRefusal (start-at-else1 (else1 c) .args .p) ≡ 0
 set-accepted c = sym (c .before .refusal .ensures) ∙ c .if2 .left
 
 refusal-requires : tie.Need-refusal-requires
@@ -35,11 +43,9 @@ refusal-requires c κs = search needs
 
 returns-2 : tie.Need-returns-2
 returns-2 c =
-    let start = c .before .before .before .before .before .before .before .before .before in
     let refusal = c .before .refusal in
     listed-refused (refusal .result) (c .if2 .taken)
-    (refused-by-set (start .args .p) (now (start .args .xs)) (now (start .args .ys)) (now (start .args .leading)) (now (start .args .trailing))
-    (now (start .args .marks)) (refusal .result) (lengths-accepted (c .before .before)) (refusal .ensures))
+    (refused-by-set _ _ _ _ _ _ (refusal .result) (lengths-accepted (c .before .before)) (refusal .ensures))
 
 table-requires : tie.Need-table-requires
 table-requires c κs = search needs
@@ -49,11 +55,11 @@ constants-of-requires c κs = search needs
 
 fill-requires : tie.Need-fill-requires
 fill-requires c κs =
-    let both-accepted = c .before .before .before .before .before .before .before in
-    let table = c .before .before .before .before .before .before in
-    let constants = c .before .before .before in (
-      record { table = table .table .ensures; accepted = set-accepted both-accepted; constants = constants .constants-of .ensures },
-      equal-lengths _ _ _ _ _ (lengths-accepted (both-accepted .before .before)),
+    let constants = c .before .before .before in
+    let table = constants .before .before .before in
+    let accepted = table .before in (
+      record { table = table .table .ensures; accepted = set-accepted accepted; constants = constants .constants-of .ensures },
+      equal-lengths _ _ _ _ _ (lengths-accepted (else1 accepted)),
     )
 
 count-zeros-requires : tie.Need-count-zeros-requires
@@ -68,15 +74,20 @@ same-length-2 c = search needs
 same-length-3 : tie.Need-same-length-3
 same-length-3 c = search needs
 
+-- past all calls: where the lists were filled, and where the set was accepted
+abbrev filled : tie.After-count-zeros → tie.After-fill
+filled c = c .before .before .before .before .before .before .before .before
+
+abbrev accepted : tie.After-fill → tie.Else2
+accepted c = c .before .before .before .before .before .before .before .before
+
 returns-3 : tie.Need-returns-3
 returns-3 c =
-    let filled = c .before .before .before .before .before .before .before .before in
-    let both-accepted = filled .before .before .before .before .before .before .before .before in
-    let start = both-accepted .before .before .before .before .before .before .before .before .before in
+    let fill = filled c .fill .ensures in
+    let before = accepted (filled c) in
     listed-count (c .count-zeros .result)
-    (refused-by-set (start .args .p) (now (start .args .xs)) (now (start .args .ys)) (now (start .args .leading)) (now (start .args .trailing))
-    (now (start .args .marks)) 0 (lengths-accepted (both-accepted .before .before)) (sym (set-accepted both-accepted)))
-    (filled .fill .ensures .0) (filled .fill .ensures .1 .0) (filled .fill .ensures .1 .1) (c .count-zeros .ensures)
+    (refused-by-set _ _ _ _ _ _ 0 (lengths-accepted (else1 before)) (sym (set-accepted before)))
+    (fill .0) (fill .1 .0) (fill .1 .1) (c .count-zeros .ensures)
 
 pub list-spec : {M : Type 1} → statement M
 list-spec =

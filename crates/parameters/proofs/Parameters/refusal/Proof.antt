@@ -35,9 +35,24 @@ fields c =
 linked : {r n n′ : ℕ} {t t′ : Bool} → r ≡ unless t bad-set n → t ≡ t′ → n ≡ n′ → r ≡ unless t′ bad-set n′
 linked e f g = e ∙ ap₂ (λ (t : Bool) (n : ℕ). unless t bad-set n) f g
 
--- the set
-abbrev p1 : tie.After-unless → Parameters
-p1 c = c .before .before .before .before .args .self
+-- where the code stands at each link: the link before, the set, and what is known of its fields
+abbrev at-easting : tie.After-unless2 → tie.After-unless
+at-easting c = c .before .before .before
+
+abbrev at-lon0 : tie.After-unless3 → tie.After-unless2
+at-lon0 c = c .before .before .before
+
+abbrev at-lat0 : tie.After-unless4 → tie.After-unless3
+at-lat0 c = c .before .before
+
+abbrev at-e2 : tie.After-unless5 → tie.After-unless4
+at-e2 c = c .before .before .before
+
+abbrev set-of : tie.After-unless → Parameters
+set-of c = c .before .before .before .before .args .self
+
+abbrev known : (c : tie.After-unless) → Fields (set-of c)
+known c = fields (c .before .before)
 
 -- the links from each field on, the last field first
 abbrev from-northing : Parameters → ℕ
@@ -55,34 +70,29 @@ from-lat0 p = unless (accepted-lat0 (p .lat0)) bad-set (from-lon0 p)
 abbrev from-e2 : Parameters → ℕ
 from-e2 p = unless (accepted-e2 (p .e2)) bad-set (from-lat0 p)
 
-northing-is : (c : tie.After-unless) → c .unless .result ≡ from-northing (p1 c)
-northing-is c =
-    let f = fields (c .before .before) in
-    linked (c .unless .ensures) (c .before .is-false .ensures ∙ ap accepted-false (toZ-ofZ (f .northing-fits))) refl
+northing-is : (c : tie.After-unless) → c .unless .result ≡ from-northing (set-of c)
+northing-is c = linked (c .unless .ensures) (c .before .is-false .ensures ∙ ap accepted-false (toZ-ofZ (known c .northing-fits))) refl
 
-easting-is : (c : tie.After-unless2) → c .unless2 .result ≡ from-easting (p1 (c .before .before .before))
+easting-is : (c : tie.After-unless2) → c .unless2 .result ≡ from-easting (set-of (at-easting c))
 easting-is c =
-    let f = fields (c .before .before .before .before .before) in
     linked (c .unless2 .ensures)
-    (c .before .is-false2 .ensures ∙ ap accepted-false (toZ-ofZ (f .easting-fits)))
-    (northing-is (c .before .before .before))
+    (c .before .is-false2 .ensures ∙ ap accepted-false (toZ-ofZ (known (at-easting c) .easting-fits)))
+    (northing-is (at-easting c))
 
-lon0-is : (c : tie.After-unless3) → c .unless3 .result ≡ from-lon0 (p1 (c .before .before .before .before .before .before))
+lon0-is : (c : tie.After-unless3) → c .unless3 .result ≡ from-lon0 (set-of (at-easting (at-lon0 c)))
 lon0-is c =
-    let f = fields (c .before .before .before .before .before .before .before .before) in
     linked (c .unless3 .ensures)
-    (c .before .is-lon0 .ensures ∙ ap accepted-lon0 (toZ-ofZ (f .lon0-fits)))
-    (easting-is (c .before .before .before))
+    (c .before .is-lon0 .ensures ∙ ap accepted-lon0 (toZ-ofZ (known (at-easting (at-lon0 c)) .lon0-fits)))
+    (easting-is (at-lon0 c))
 
-lat0-is : (c : tie.After-unless4) → c .unless4 .result ≡ from-lat0 (p1 (c .before .before .before .before .before .before .before .before))
-lat0-is c = linked (c .unless4 .ensures) (c .before .is-lat0 .ensures) (lon0-is (c .before .before))
+lat0-is : (c : tie.After-unless4) → c .unless4 .result ≡ from-lat0 (set-of (at-easting (at-lon0 (at-lat0 c))))
+lat0-is c = linked (c .unless4 .ensures) (c .before .is-lat0 .ensures) (lon0-is (at-lat0 c))
 
-e2-is : (c : tie.After-unless5) → c .unless5 .result ≡ from-e2 (p1 (c .before .before .before .before .before .before .before .before .before .before .before))
+e2-is : (c : tie.After-unless5) → c .unless5 .result ≡ from-e2 (set-of (at-easting (at-lon0 (at-lat0 (at-e2 c)))))
 e2-is c =
-    let f = fields (c .before .before .before .before .before .before .before .before .before .before .before .before .before) in
     linked (c .unless5 .ensures)
-    (c .before .is-e2 .ensures ∙ ap accepted-e2 (toZ-ofZ (f .e2-fits)))
-    (lat0-is (c .before .before .before))
+    (c .before .is-e2 .ensures ∙ ap accepted-e2 (toZ-ofZ (known (at-easting (at-lon0 (at-lat0 (at-e2 c)))) .e2-fits)))
+    (lat0-is (at-e2 c))
 
 is-false-requires : tie.Need-is-false-requires
 is-false-requires c κs = search needs
@@ -123,10 +133,11 @@ unless-requires-6 c κs = search needs
 returns : tie.Need-returns
 unfolding setRefusal
 returns c =
-    let f = fields (c .before .before .before .before .before .before .before .before .before .before .before .before .before .before .before .before) in
+    let before = c .before .before .before in
+    let f = known (at-easting (at-lon0 (at-lat0 (at-e2 before)))) in
     linked (c .unless6 .ensures)
     (c .before .is-a .ensures ∙ ap accepted-a (toZ-ofZ (f .a-fits)))
-    (e2-is (c .before .before .before))
+    (e2-is before)
 
 pub refusal-spec : {M : Type 1} → statement M
 refusal-spec =
