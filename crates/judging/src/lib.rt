@@ -1,4 +1,2 @@
-// Holds answers to those expected: what decides whether a row of `vectors` or `point_vectors` ends in "ok", and the
-// numbers that it says it is off by.
+// Holds doubles, rows and lists to those expected: what decides whether a row of `point_vectors` ends in "ok".
 pub mod doubles;
-pub mod gaps;

@@ -8,8 +8,8 @@ use mir.Syntax.{w64}
 use mir.Val.{SFits}
 use mir.Facts.{toZ-ofZ}
 use Rattle.units.specs.declared.answers.Told.{Told}
-use Rattle.judging.specs.declared.gaps.Gaps.{Gaps}
-use Rattle.judging.specs.Gaps.{gapsOf, onGround, isRight}
+use Rattle.gaps.specs.declared.Gaps.{Gaps}
+use Rattle.gaps.specs.Gaps.{gapsOf, onGround, isRight}
 use Rattle.azimuthal_forward.specs.Answer.{forwardTold}
 use Rattle.azimuthal_inverse.specs.Answer.{inverseTold}
 use Rattle.cells.specs.Cells.{cellTold}

@@ -1,8 +1,8 @@
 // Cells of every side, on both sides of 0 and of the limit.
 use cells::cell;
 use cells::cell_told;
-use judging::gaps::gaps_of;
-use judging::gaps::is_right;
+use gaps::gaps_of;
+use gaps::is_right;
 use printing::number;
 use printing::refusal;
 use printing::verdict;

@@ -2,8 +2,8 @@
 // the two are at most 2 mas apart for these three e2: both leave out e^8, less than 1 mas here, and both are rounded.
 use crate::rows::set;
 use constants::constants_of;
+use gaps::gap;
 use geodetic_search::to_geodetic;
-use judging::gaps::gap;
 use latitudes::Authalic;
 use latitudes::Geodetic;
 use printing::number;

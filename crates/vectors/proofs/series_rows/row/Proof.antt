@@ -14,7 +14,7 @@ use Rattle.geodetic_search.specs.Reverse.{geodetic}
 use Rattle.constants.specs.Derived.{seriesOf}
 use Rattle.reverse_series.specs.ReverseSeries.{reversed}
 use Rattle.billionths.proofs.Calls.{back}
-use Rattle.judging.proofs.Differences.{gap-is}
+use Rattle.gaps.proofs.Differences.{gap-is}
 use Rattle.vectors.specs.Series.{most-mas}
 use Rattle.vectors.proofs.series_rows.row.Statement.{statement}
 use Rattle.vectors.proofs.series_rows.row.Tie as tie

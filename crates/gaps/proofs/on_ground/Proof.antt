@@ -4,8 +4,8 @@ use borrow.Author.Needs.{needs}
 use mathlib.Core.Path.{ap, _∙_}
 use lib.IntN.{natAbs}
 use mir.Facts.{toZ-ofZ}
-use Rattle.judging.proofs.gaps.on_ground.Statement.{statement}
-use Rattle.judging.proofs.gaps.on_ground.Tie as tie
+use Rattle.gaps.proofs.on_ground.Statement.{statement}
+use Rattle.gaps.proofs.on_ground.Tie as tie
 
 magnitude-requires : tie.Need-magnitude-requires
 magnitude-requires c κs = search needs

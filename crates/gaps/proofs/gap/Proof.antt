@@ -8,9 +8,9 @@ use native.Mathlib.Omega.{arith}
 use lib.IntN.{ℤ, natAbs}
 use mir.Facts.{toZ-ofZ}
 use Rattle.billionths.proofs.Calls.{back}
-use Rattle.judging.proofs.Differences.{alike, one-side, both-sides, sum-fits}
-use Rattle.judging.proofs.gaps.gap.Statement.{statement}
-use Rattle.judging.proofs.gaps.gap.Tie as tie
+use Rattle.gaps.proofs.Differences.{alike, one-side, both-sides, sum-fits}
+use Rattle.gaps.proofs.gap.Statement.{statement}
+use Rattle.gaps.proofs.gap.Tie as tie
 
 -- where the two sizes are known
 abbrev start : tie.After-magnitude2 → tie.Start

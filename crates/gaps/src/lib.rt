@@ -1,4 +1,5 @@
-// How far an answer in whole numbers is from the one expected.
+// How far an answer in whole numbers is from the one expected: what decides whether a row of `vectors` ends in "ok",
+// and the numbers that it says it is off by.
 use integers::excess;
 use integers::magnitude;
 use integers::nearest;
@@ -8,7 +9,7 @@ ghost use mathlib.Core.Path.{_≡_};
 ghost use Prim.Native.Nat.{_<_, _≤_};
 ghost use lib.IntN.{natAbs, _-ℤ_};
 ghost use Rattle.units.specs.Units.{unit};
-ghost use Rattle.judging.specs.Gaps.{gapsOf, cap, capped, part, onGround, isRight};
+ghost use Rattle.gaps.specs.Gaps.{gapsOf, cap, capped, part, onGround, isRight};
 
 // The sizes of the differences of two pairs of values.
 pub struct Gaps {

@@ -5,8 +5,8 @@ use Prim.Native.Nat.{ℕ, _*_}
 use native.Mathlib.Nat.{mul-le-mul}
 use native.Mathlib.Omega.{arith}
 use Rattle.integers.specs.Near.{nearest}
-use Rattle.judging.proofs.gaps.part.Statement.{statement}
-use Rattle.judging.proofs.gaps.part.Tie as tie
+use Rattle.gaps.proofs.part.Statement.{statement}
+use Rattle.gaps.proofs.part.Tie as tie
 
 cut-requires : tie.Need-cut-requires
 cut-requires c κs = search needs

@@ -7,7 +7,7 @@ use lib.IntN.{ℤ, natAbs, _-ℤ_}
 use Rattle.integers.specs.Near.{nearest}
 use Rattle.units.specs.Units.{unit}
 use Rattle.units.specs.declared.answers.Told.{Told}
-use Rattle.judging.specs.declared.gaps.Gaps.{Gaps}
+use Rattle.gaps.specs.declared.Gaps.{Gaps}
 
 -- the sizes of the differences, in the answers' own units
 abbrev pub gapsOf : Told → Told → Gaps

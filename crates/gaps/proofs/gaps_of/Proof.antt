@@ -1,8 +1,8 @@
 -- `gaps::gaps_of` meets its contract: each gap is that of the two values, which a struct holds as they are. Assumes nothing.
 use borrow.Author.Needs.{needs}
-use Rattle.judging.proofs.Differences.{gap-is}
-use Rattle.judging.proofs.gaps.gaps_of.Statement.{statement}
-use Rattle.judging.proofs.gaps.gaps_of.Tie as tie
+use Rattle.gaps.proofs.Differences.{gap-is}
+use Rattle.gaps.proofs.gaps_of.Statement.{statement}
+use Rattle.gaps.proofs.gaps_of.Tie as tie
 
 gap-requires : tie.Need-gap-requires
 gap-requires c κs = search needs

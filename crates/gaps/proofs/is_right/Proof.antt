@@ -1,8 +1,8 @@
 -- `gaps::is_right` meets its contract: the three tests are those of the definition, in its order, and the first that fails decides.
 -- Assumes nothing.
 use borrow.Author.Tests.{ne-eqb, eq-eqb, lt-leb, le-leb}
-use Rattle.judging.proofs.gaps.is_right.Statement.{statement}
-use Rattle.judging.proofs.gaps.is_right.Tie as tie
+use Rattle.gaps.proofs.is_right.Statement.{statement}
+use Rattle.gaps.proofs.is_right.Tie as tie
 
 returns : tie.Need-returns
 returns c = simp (ne-eqb _ _ (c .if1 .taken))
