@@ -28,20 +28,20 @@ isTold answer refusal count =
 -- ---- digests
 
 -- one number more in the sum, and the new sum in the sum of the sums; both in 64 bits
-abbrev pub added : Digest → ℕ → Digest
-added d n =
+abbrev pub digestWith : Digest → ℕ → Digest
+digestWith d n =
     record { sum = (d .sum + n) % 2 ^ 64; sums = (d .sums + (d .sum + n) % 2 ^ 64) % 2 ^ 64 }
 
-unfoldable pub addedAll : Digest → List ℕ → Digest
-addedAll d [] = d
-addedAll d (n ∷ ns) = addedAll (added d n) ns
+unfoldable pub digestWithAll : Digest → List ℕ → Digest
+digestWithAll d [] = d
+digestWithAll d (n ∷ ns) = digestWithAll (digestWith d n) ns
 
-abbrev pub nothing : Digest
-nothing = record { sum = 0; sums = 0 }
+abbrev pub emptyDigest : Digest
+emptyDigest = record { sum = 0; sums = 0 }
 
 -- of the two outputs of a list call, by their bits, and of its marks
 abbrev pub digestOf : List Float → List Float → List ℕ → Digest
-digestOf leading trailing marks = addedAll (addedAll (addedAll nothing (map bitsOf leading)) (map bitsOf trailing)) marks
+digestOf leading trailing marks = digestWithAll (digestWithAll (digestWithAll emptyDigest (map bitsOf leading)) (map bitsOf trailing)) marks
 
-abbrev pub same : Digest → Digest → Bool
-same d e = eqb (d .sum) (e .sum) && eqb (d .sums) (e .sums)
+abbrev pub sameDigest : Digest → Digest → Bool
+sameDigest d e = eqb (d .sum) (e .sum) && eqb (d .sums) (e .sums)

@@ -7,7 +7,7 @@ ghost use mathlib.Core.Path.{_≡_};
 ghost use mathlib.Core.Bool.{_&&_};
 ghost use mathlib.Core.List.{map};
 ghost use lib.Dec.{eqb};
-ghost use Rattle.judging.specs.Doubles.{bitsOf, alike, isTold, added, addedAll, digestOf, same};
+ghost use Rattle.judging.specs.Doubles.{bitsOf, alike, isTold, digestWith, digestWithAll, digestOf, sameDigest};
 
 // What stands for a double that is not finite.
 const OTHER_BITS: u64 = 0x7FF8_0000_0000_0000;
@@ -70,7 +70,7 @@ pub struct Digest {
 }
 
 fn add(d: Digest, n: u64) -> Digest
-    ensures { λ r. ⌜ r ≡ added d n ⌝ }
+    ensures { λ r. ⌜ r ≡ digestWith d n ⌝ }
 {
     let sum = wrapping_add_u64(d.sum, n);
     Digest {
@@ -80,7 +80,7 @@ fn add(d: Digest, n: u64) -> Digest
 }
 
 fn with_doubles(d: Digest, xs: &[f64]) -> Digest
-    ensures { λ r. ⌜ r ≡ addedAll d (map bitsOf (now (xs .entry))) ⌝ }
+    ensures { λ r. ⌜ r ≡ digestWithAll d (map bitsOf (now (xs .entry))) ⌝ }
 {
     let mut found = d;
     let mut i = 0;
@@ -92,7 +92,7 @@ fn with_doubles(d: Digest, xs: &[f64]) -> Digest
 }
 
 fn with_marks(d: Digest, marks: &[u8]) -> Digest
-    ensures { λ r. ⌜ r ≡ addedAll d (now (marks .entry)) ⌝ }
+    ensures { λ r. ⌜ r ≡ digestWithAll d (now (marks .entry)) ⌝ }
 {
     let mut found = d;
     let mut i = 0;
@@ -112,7 +112,7 @@ pub fn digest_of(leading: &[f64], trailing: &[f64], marks: &[u8]) -> Digest
 }
 
 pub fn are_same(d: Digest, e: Digest) -> bool
-    ensures { λ r. ⌜ r ≡ same d e ⌝ }
+    ensures { λ r. ⌜ r ≡ sameDigest d e ⌝ }
 {
     are_equal(d.sum, e.sum, d.sums, e.sums)
 }

@@ -11,7 +11,7 @@ use Rattle.point_lists.specs.declared.ListAnswer.{ListAnswer}
 use Rattle.row_lists.specs.Rows.{rowOf, zeros}
 use Rattle.point_lists.specs.Lists.{listAnswer, ListCall}
 use Rattle.judging.specs.declared.doubles.Digest.{Digest}
-use Rattle.judging.specs.Doubles.{isTold, digestOf, same}
+use Rattle.judging.specs.Doubles.{isTold, digestOf, sameDigest}
 use Rattle.point_vectors.specs.declared.list_rows.Outcome.{Outcome}
 use Rattle.point_vectors.specs.Lists.{filled, marksOf, stepsOf, refusalOf, outcomeOf, untouchedDigest, isCounted, isRefused}
 
@@ -43,10 +43,10 @@ module _ (p : Parameters) (forward : Bool) (a b c d e : ℕ) (x y : Float) {lead
 -- ---- a row's verdict from what its calls gave
 
 module _ {b told alike : Bool} (found outcome : Outcome) (both : b ≡ (told && alike)) (is : found ≡ outcome) where
-  pub counted-by : (n : ℕ) (right : Digest) → told ≡ isTold (found .answer) 0 n → alike ≡ same (found .digest) right → b ≡ isCounted outcome n right
+  pub counted-by : (n : ℕ) (right : Digest) → told ≡ isTold (found .answer) 0 n → alike ≡ sameDigest (found .digest) right → b ≡ isCounted outcome n right
   counted-by n right f g = both ∙ ap₂ _&&_ f g ∙ ap (λ (o : Outcome). isCounted o n right) is
 
-  pub refused-by : (number : ℕ) {before : Digest} → told ≡ isTold (found .answer) number 0 → alike ≡ same (found .digest) before →
+  pub refused-by : (number : ℕ) {before : Digest} → told ≡ isTold (found .answer) number 0 → alike ≡ sameDigest (found .digest) before →
       before ≡ untouchedDigest → b ≡ isRefused outcome number
   refused-by number f g h =
-      both ∙ ap₂ _&&_ f (g ∙ ap (same (found .digest)) h) ∙ ap (λ (o : Outcome). isRefused o number) is
+      both ∙ ap₂ _&&_ f (g ∙ ap (sameDigest (found .digest)) h) ∙ ap (λ (o : Outcome). isRefused o number) is

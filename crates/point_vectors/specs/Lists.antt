@@ -3,14 +3,14 @@ use Prim.Native.Nat.{ℕ, zero, suc}
 use mathlib.Core.Bool.{Bool, false, _&&_}
 use mathlib.Core.List.{List, [], _∷_, _++_}
 use lib.IntN.{pos, negsuc}
-use lib.Ieee.{Float, nan, fin, binary64, mul, ofInt}
-use lib.ListN.{getD, take, drop, replicate}
+use lib.Ieee.{Float, fin, binary64, mul, ofInt}
+use lib.ListN.{take, drop, replicate}
 use Rattle.parameters.specs.declared.Parameters.{Parameters}
 use Rattle.pairs.specs.declared.Row.{Row}
 use Rattle.row_lists.specs.Rows.{rowOf, rows, firstValues, secondValues, marks, zeros}
 use Rattle.point_lists.specs.Lists.{listRefusal, written, listAnswer}
 use Rattle.judging.specs.declared.doubles.Digest.{Digest}
-use Rattle.judging.specs.Doubles.{isTold, digestOf, same}
+use Rattle.judging.specs.Doubles.{isTold, digestOf, sameDigest}
 use Rattle.point_vectors.specs.declared.list_rows.Outcome.{Outcome}
 
 -- ---- before the call
@@ -65,15 +65,10 @@ untouchedDigest = digestOf filled filled marksOf
 
 -- ---- verdicts
 
--- the row at place i of the outputs of a list call
-abbrev pub rowAt : ℕ → List ℕ → List Float → List Float → Row
-rowAt i ms leading trailing =
-    record { mark = getD ms i 0; first = getD leading i nan; second = getD trailing i nan }
-
 -- all points are accepted, and the outputs have the digest expected
 abbrev pub isCounted : Outcome → ℕ → Digest → Bool
-isCounted found count right = isTold (found .answer) 0 count && same (found .digest) right
+isCounted found count right = isTold (found .answer) 0 count && sameDigest (found .digest) right
 
 -- refused by this number, with the outputs as they were
 abbrev pub isRefused : Outcome → ℕ → Bool
-isRefused found number = isTold (found .answer) number 0 && same (found .digest) untouchedDigest
+isRefused found number = isTold (found .answer) number 0 && sameDigest (found .digest) untouchedDigest

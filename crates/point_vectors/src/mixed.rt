@@ -21,14 +21,14 @@ use units::refusals::TOO_FAR;
 ghost use mathlib.Core.Path.{_≡_};
 ghost use Prim.Native.Nat.{_<_};
 ghost use Rattle.judging.specs.Doubles.{alike};
-ghost use Rattle.point_vectors.specs.Lists.{rowAt};
+ghost use Rattle.row_lists.specs.Rows.{rowAt};
 
 type Numbers = [f64; 8];
 
 // The row at a place of three lists.
 fn row_at(i: usize, marks: &[u8; 8], leading: &Numbers, trailing: &Numbers) -> Row
     requires { ⌜ i < 8 ⌝ }
-    ensures { λ r. ⌜ r ≡ rowAt i (now (marks .entry)) (now (leading .entry)) (now (trailing .entry)) ⌝ }
+    ensures { λ r. ⌜ r ≡ rowAt i (now (leading .entry)) (now (trailing .entry)) (now (marks .entry)) ⌝ }
 {
     Row {
         mark: marks[i],

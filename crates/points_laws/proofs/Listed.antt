@@ -12,13 +12,13 @@ use Rattle.pairs.specs.declared.Row.{Row}
 use Rattle.pairs.specs.Pairs.{degrees, metres}
 use Rattle.points.proofs.AnswerLaws.{forward-tells, inverse-tells}
 use Rattle.point_lists.specs.declared.ListAnswer.{ListAnswer}
-use Rattle.row_lists.specs.Rows.{forwardAt, inverseAt, rows, firstValues, secondValues, marks}
+use Rattle.row_lists.specs.Rows.{rowAt, forwardAt, inverseAt, rows, firstValues, secondValues, marks}
 use Rattle.point_lists.specs.Lists.{lengthRefusal, listRefusal}
 use Rattle.row_lists.specs.Rows.{zeros}
 use Rattle.point_lists.specs.Lists.{written, listAnswer, ListCall}
 use Rattle.row_lists.proofs.ListLaws.{column-at, column-length}
 use Rattle.point_lists.proofs.ListedLaws.{equal-lengths}
-use Rattle.points_laws.specs.Theorems.{rowAt, AtEachIndex, ForwardToldAt, InverseToldAt}
+use Rattle.points_laws.specs.Theorems.{AtEachIndex, ForwardToldAt, InverseToldAt}
 use Rattle.points_laws.specs.Theorems.{ForwardListed, InverseListed, ListCounted, ListRefused}
 use Rattle.units.proofs.Chains.{both-passed}
 

@@ -41,7 +41,7 @@ PairCloseTo p at back =
 -- An accepted answer that is close.
 pub record ComesBack (p : Parameters) (at : GeodeticPair) (answer : GeodeticPairAnswer) : Type 0 where
   pub back : GeodeticPair
-  pub accepted : answer ≡ Degrees back
+  pub answer-is : answer ≡ Degrees back
   pub close : PairCloseTo p at back
 
 -- The inverse of exactly the floats that the forward call answered.

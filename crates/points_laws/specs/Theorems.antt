@@ -28,7 +28,7 @@ use Rattle.point_lists.specs.declared.ListAnswer.the-variants.{Count, Refused}
 use Rattle.pairs.specs.Pairs.{degrees, metres, latitudeMas, longitudeMas, eastingCm, northingCm, planePair, geodeticPair, zeroFloat}
 use Rattle.pairs.specs.Pairs.{plane-row, geodetic-row, inMetres, inDegrees}
 use Rattle.points.specs.Points.{forwardDegrees, inverseMetres}
-use Rattle.row_lists.specs.Rows.{forwardAt, inverseAt, zeros}
+use Rattle.row_lists.specs.Rows.{forwardAt, inverseAt, rowAt, zeros}
 use Rattle.point_lists.specs.Lists.{listRefusal, ListCall}
 
 -- ---- accepted answers of single calls
@@ -107,10 +107,6 @@ CentreInverse =
     inverseMetres p (planePair (p .«false_easting») (p .«false_northing»)) ≡ Degrees (geodeticPair (p .lat0 .0) (p .lon0))
 
 -- ---- lists
-
--- what stands at an index of the three lists that a call writes
-abbrev pub rowAt : ℕ → List Float → List Float → List ℕ → Row
-rowAt k first second mark = record { mark = getD mark k 0; first = getD first k nan; second = getD second k nan }
 
 -- What holds at each index of every call that is not refused and works out its points by `row`: of the set, the two floats put in there and the row
 -- written there.

@@ -2,7 +2,8 @@
 use Prim.Native.Nat.{ℕ, zero, suc}
 use mathlib.Core.Bool.{Bool, true, false}
 use mathlib.Core.List.{List, [], _∷_, map}
-use lib.Ieee.{Float}
+use lib.Ieee.{Float, nan}
+use lib.ListN.{getD}
 use Rattle.parameters.specs.declared.Parameters.{Parameters}
 use Rattle.pairs.specs.declared.Row.{Row}
 use Rattle.pairs.specs.Pairs.{degrees, metres}
@@ -34,6 +35,10 @@ secondValues = map (λ (r : Row). r .second)
 
 abbrev pub marks : List Row → List ℕ
 marks = map (λ (r : Row). r .mark)
+
+-- the row at index k of three lists
+abbrev pub rowAt : ℕ → List Float → List Float → List ℕ → Row
+rowAt k first second mark = record { mark = getD mark k 0; first = getD first k nan; second = getD second k nan }
 
 -- "the count of marks that are 0"
 abbrev pub zeros : List ℕ → ℕ

@@ -14,16 +14,16 @@ use Rattle.worst_gaps.specs.declared.tally.Tally.{Tally}
 use Rattle.worst_gaps.specs.Positions.{nextOf, latitudeAt, longitudeAt}
 use Rattle.worst_gaps.specs.Gaps.{latitudeGap, gapThousandths}
 
-abbrev pub nothing : Tally
-nothing = record { trips = 0; refused = 0; latitude = 0; longitude = 0 }
+abbrev pub noTrips : Tally
+noTrips = record { trips = 0; refused = 0; latitude = 0; longitude = 0 }
 
 -- one more; the count stops at a million
 abbrev pub counted : ℕ → ℕ
 counted n = min (n + 1) 1_000_000
 
 -- a round trip with these gaps
-abbrev pub added : Tally → ℕ → ℕ → Tally
-added seen latitude longitude =
+abbrev pub withTrip : Tally → ℕ → ℕ → Tally
+withTrip seen latitude longitude =
     record {
       trips = counted (seen .trips);
       refused = seen .refused;
@@ -38,7 +38,7 @@ refusedOnce seen =
 
 -- a position with the answer for the way there and back
 abbrev pub compared : Parameters → Geodetic → ℤ → GeodeticAnswer → Tally → Tally
-compared p φ lon (Position φ′ lon′) seen = added seen (latitudeGap φ φ′) (gapThousandths p φ lon lon′)
+compared p φ lon (Position φ′ lon′) seen = withTrip seen (latitudeGap φ φ′) (gapThousandths p φ lon lon′)
 compared p φ lon (Refused n) seen = refusedOnce seen
 
 unfoldable pub tripOf : Parameters → Geodetic → ℤ → Tally → Tally

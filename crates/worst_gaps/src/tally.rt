@@ -2,7 +2,7 @@
 use libc::STDOUT_FILENO;
 ghost use mathlib.Core.Path.{_≡_};
 ghost use Prim.Native.Nat.{max};
-ghost use Rattle.worst_gaps.specs.Tallies.{nothing, counted, added, refusedOnce, isWithin};
+ghost use Rattle.worst_gaps.specs.Tallies.{noTrips, counted, withTrip, refusedOnce, isWithin};
 
 // Where a count stops.
 const COUNT_MOST: u64 = 1_000_000;
@@ -45,7 +45,7 @@ fn text(bytes: &[u8]) {
 
 impl Tally {
     pub(crate) fn none() -> Tally
-        ensures { λ r. ⌜ r ≡ nothing ⌝ }
+        ensures { λ r. ⌜ r ≡ noTrips ⌝ }
     {
         Tally {
             trips: 0,
@@ -57,7 +57,7 @@ impl Tally {
 
     // A round trip with these gaps.
     pub(crate) fn add(self, latitude: u64, longitude: u64) -> Tally
-        ensures { λ r. ⌜ r ≡ added self latitude longitude ⌝ }
+        ensures { λ r. ⌜ r ≡ withTrip self latitude longitude ⌝ }
     {
         Tally {
             trips: more(self.trips),

@@ -21,7 +21,7 @@ ghost use Rattle.units.specs.Units.{right-angle, half-turn};
 ghost use Rattle.constants.specs.Derived.{Prepared};
 ghost use Rattle.azimuthal_forward.specs.Answer.{nearness as nearnessOf};
 ghost use Rattle.worst_gaps.specs.Positions.{start};
-ghost use Rattle.worst_gaps.specs.Tallies.{nothing, tripOf, stepOf, runOf};
+ghost use Rattle.worst_gaps.specs.Tallies.{noTrips, tripOf, stepOf, runOf};
 
 // Demand 3 speaks of positions at most 89° from the Equator whose nearness is at least 1,000,000,000.
 const FARTHEST_LATITUDE: u64 = 320_400_000;
@@ -77,7 +77,7 @@ fn step(t: &Table, p: Parameters, k: Constants, s: u64, seen: Tally) -> Tally
 // So many positions of the sequence.
 fn run(t: &Table, p: Parameters, k: Constants, count: u64) -> Tally
     requires { ⌜ Prepared (now t) p k ⌝ }
-    ensures { λ r. ⌜ r ≡ runOf p count start nothing ⌝ }
+    ensures { λ r. ⌜ r ≡ runOf p count start noTrips ⌝ }
 {
     let mut seen = Tally::none();
     let mut s = START;

@@ -6,13 +6,13 @@ use mathlib.Core.List.{map}
 use Prim.Native.Nat.{_+_, _≤_, _-_}
 use lib.ListN.{length, drop}
 use Rattle.judging.specs.declared.doubles.Digest.{Digest}
-use Rattle.judging.specs.Doubles.{bitsOf, addedAll}
+use Rattle.judging.specs.Doubles.{bitsOf, digestWithAll}
 use Rattle.judging.proofs.Digests.{one-more-double, no-more-doubles}
 use Rattle.judging.proofs.doubles.with_doubles.Statement.{statement}
 use Rattle.judging.proofs.doubles.with_doubles.Tie as tie
 
 abbrev Inv-loop : tie.InvT-loop
-Inv-loop xs found₀ i₀ found i = (i ≤ length xs) × (addedAll found (drop i (map bitsOf xs)) ≡ addedAll found₀ (map bitsOf xs))
+Inv-loop xs found₀ i₀ found i = (i ≤ length xs) × (digestWithAll found (drop i (map bitsOf xs)) ≡ digestWithAll found₀ (map bitsOf xs))
 
 abbrev μ-loop : tie.MeasureT-loop
 μ-loop xs found₀ i₀ found i = length xs - i
@@ -44,7 +44,7 @@ loop-again c =
     let xs = turn .before .before .before .args .xs .now in
     let i = turn .before .loop .i in (
       search needs,
-      ap (λ (d : Digest). addedAll d (drop (i + 1) (map bitsOf xs))) (c .add .ensures)
+      ap (λ (d : Digest). digestWithAll d (drop (i + 1) (map bitsOf xs))) (c .add .ensures)
           ∙ one-more-double _ xs i _ (turn .loop-test .taken) (c .before .bits .ensures) ∙ turn .before .loop .inv .1,
     )
 

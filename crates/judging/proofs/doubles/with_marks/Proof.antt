@@ -5,13 +5,13 @@ use mathlib.Core.Path.{_≡_, sym, ap, _∙_}
 use Prim.Native.Nat.{_+_, _≤_, _-_}
 use lib.ListN.{length, drop}
 use Rattle.judging.specs.declared.doubles.Digest.{Digest}
-use Rattle.judging.specs.Doubles.{addedAll}
+use Rattle.judging.specs.Doubles.{digestWithAll}
 use Rattle.judging.proofs.Digests.{one-more, no-more}
 use Rattle.judging.proofs.doubles.with_marks.Statement.{statement}
 use Rattle.judging.proofs.doubles.with_marks.Tie as tie
 
 abbrev Inv-loop : tie.InvT-loop
-Inv-loop marks found₀ i₀ found i = (i ≤ length marks) × (addedAll found (drop i marks) ≡ addedAll found₀ marks)
+Inv-loop marks found₀ i₀ found i = (i ≤ length marks) × (digestWithAll found (drop i marks) ≡ digestWithAll found₀ marks)
 
 abbrev μ-loop : tie.MeasureT-loop
 μ-loop marks found₀ i₀ found i = length marks - i
@@ -40,7 +40,7 @@ loop-again c =
     let marks = turn .before .before .before .args .marks .now in
     let i = turn .before .loop .i in (
       search needs,
-      ap (λ (d : Digest). addedAll d (drop (i + 1) marks)) (c .add .ensures)
+      ap (λ (d : Digest). digestWithAll d (drop (i + 1) marks)) (c .add .ensures)
           ∙ one-more _ marks i _ 0 (turn .loop-test .taken) (c .before .wide .ensures) ∙ turn .before .loop .inv .1,
     )
 
