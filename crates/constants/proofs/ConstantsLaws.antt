@@ -8,7 +8,7 @@ use Rattle.parameters.specs.ParameterSet.{setRefusal}
 use Rattle.latitudes.specs.Latitude.{SmallSeries}
 use Rattle.constants.specs.Derived.{β0, S0, C0, constantsOf, BoundedCentre}
 use Rattle.units.proofs.Spans.{Between}
-use Rattle.parameters.proofs.AcceptedSet.{accepted}
+use Rattle.parameters.proofs.AcceptedSet.{accepted-fields}
 use Rattle.constants.proofs.SeriesLaws.{series-small}
 use Rattle.constants.proofs.ScaleLaws.{e2-small, RD-between, RN-between}
 
@@ -21,7 +21,7 @@ pub record Sound (k : Constants) : Type 0 where
 pub sound : (p : Parameters) → setRefusal p ≡ 0 → Sound (constantsOf p)
 unfolding constantsOf S0 C0
 sound p h =
-    let ok = accepted p h in
+    let ok = accepted-fields p h in
     record {
       small = series-small (p .e2) (e2-small p ok);
       centre = record { s0-size = sine-size (β0 (p .e2) (p .lat0) .0); c0-size = cosine-size (β0 (p .e2) (p .lat0) .0) };

@@ -106,5 +106,5 @@ pub record BoundedCentre (k : Constants) : Type 0 where
 -- What the steps are handed: the table, an accepted set and its constants.
 pub record Prepared (t : List ℕ) (p : Parameters) (k : Constants) : Type 0 where
   pub table : IsTable t
-  pub accepted : setRefusal p ≡ 0
+  pub set-accepted : setRefusal p ≡ 0
   pub constants : k ≡ constantsOf p

@@ -19,4 +19,4 @@ module _ {p : Parameters} (is : p ≡ etrsLaea) where
   set-accepted = ap setRefusal is ∙ etrs-accepted
 
   pub etrs-prepared : {t : List ℕ} {k : Constants} → IsTable t → k ≡ constantsOf p → Prepared t etrsLaea k
-  etrs-prepared table e = record { table = table; accepted = etrs-accepted; constants = e ∙ ap constantsOf is }
+  etrs-prepared table e = record { table = table; set-accepted = etrs-accepted; constants = e ∙ ap constantsOf is }

@@ -57,9 +57,9 @@ pub record Accepted (p : Parameters) : Type 0 where
   pub easting-size : natAbs (p .«false_easting») ≤ 1_000_000_000
   pub northing-size : natAbs (p .«false_northing») ≤ 1_000_000_000
 
-pub accepted : (p : Parameters) → setRefusal p ≡ 0 → Accepted p
+pub accepted-fields : (p : Parameters) → setRefusal p ≡ 0 → Accepted p
 unfolding setRefusal accepted-a accepted-e2 accepted-lon0 accepted-false
-accepted p h =
+accepted-fields p h =
     let a = link-passed (accepted-a (p .a)) 0 h in
     let e2 = link-passed (accepted-e2 (p .e2)) 0 (a .1) in
     let lat0 = link-passed (accepted-lat0 (p .lat0)) 0 (e2 .1) in

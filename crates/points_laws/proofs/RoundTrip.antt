@@ -17,8 +17,7 @@ use Rattle.pairs.specs.Pairs.{degrees, metres, latitudeMas, longitudeMas, easti
 use Rattle.pairs.specs.Pairs.{plane-row, geodetic-row, inDegrees}
 use Rattle.points.specs.Points.{forwardDegrees, inverseMetres}
 use Rattle.points.proofs.AnswerLaws.{forward-tells, inverse-tells, inverse-converted}
-use Rattle.row_lists.specs.Rows.{forwardAt, inverseAt}
-use Rattle.points_laws.specs.Theorems.{rowAt}
+use Rattle.row_lists.specs.Rows.{rowAt, forwardAt, inverseAt}
 use Rattle.points_laws.specs.RoundTrip.{PairCloseTo, FloatRoundTrip}
 use Rattle.points_laws.specs.RoundTrip.{CentreForwardAt, CentreInverseAt, CentreForwardListed, CentreInverseListed, ListRoundTrip}
 use Rattle.points_laws.proofs.Floats.{both-finite, both-within}
@@ -51,10 +50,10 @@ float-round-trip p at pair near e =
     } in
     let trip = demand-3 p φ lon met in
     let back : GeodeticPair = geodeticPair (trip .φ′ .0) (trip .lon′) in
-    let came : inverseMetres p pair ≡ Degrees back = inverse-of-answer p at pair e ∙ ap inDegrees (trip .accepted) in
+    let came : inverseMetres p pair ≡ Degrees back = inverse-of-answer p at pair e ∙ ap inDegrees (trip .answer-is) in
     record {
       back = back;
-      accepted = came;
+      answer-is = came;
       close = subst (CloseTo latitude-bound gap-bound 1 p φ lon) (inverse-back p pair back came) trip;
     }
 
@@ -82,5 +81,5 @@ list-round-trip p xs ys first first′ second second′ mark mark′ answer call
     let kept = list-counted p (forwardAt p) xs ys first first′ second second′ mark mark′ answer call none in
     let l′ : k < length first′ = subst (λ (n : ℕ). k < n) (sym (kept .1)) l in
     let row : rowAt k lat′ lon′ again′ ≡ geodetic-row (Degrees (trip .back)) =
-    inverse-listed p first′ second′ lat lat′ lon lon′ again again′ answer′ call′ none′ k l′ ∙ ap geodetic-row (trip .accepted) in
+    inverse-listed p first′ second′ lat lat′ lon lon′ again again′ answer′ call′ none′ k l′ ∙ ap geodetic-row (trip .answer-is) in
     (ap (λ (m : Row). m .mark) row, subst (PairCloseTo p at) (ap (λ (m : Row). degrees (m .first) (m .second)) (sym row)) (trip .close))

@@ -5,7 +5,7 @@ use native.Mathlib.Nat.{le-trans}
 use lib.Dec.{lit≤}
 use lib.IntN.{ℤ}
 use Rattle.floats.proofs.Coordinates.{latitude, longitude, plane}
-use Rattle.parameters.proofs.AcceptedSet.{accepted, lat0-size}
+use Rattle.parameters.proofs.AcceptedSet.{accepted-fields, lat0-size}
 use Rattle.azimuthal_forward.specs.Answer.{forwardOf}
 use Rattle.azimuthal_inverse.specs.Answer.{inverseOf}
 use Rattle.projection_laws.proofs.Centre.{centre-forward as whole-centre-forward, centre-inverse as whole-centre-inverse}
@@ -33,13 +33,13 @@ inverse-whole p set E N E-size N-size =
 
 pub centre-forward : CentreForward
 centre-forward p set =
-    let ok = accepted p set in
+    let ok = accepted-fields p set in
     forward-whole p set (p .lat0 .0) (p .lon0) (lat0-size (p .lat0) (ok .lat0-accepted)) (ok .lon0-size)
     ∙ ap inMetres (forward-decided p (p .lat0) (p .lon0) (p .«false_easting») (p .«false_northing») (whole-centre-forward p set))
 
 pub centre-inverse : CentreInverse
 centre-inverse p set =
-    let ok = accepted p set in
+    let ok = accepted-fields p set in
     let FE = p .«false_easting» in
     let FN = p .«false_northing» in
     inverse-whole p set FE FN (le-trans (ok .easting-size) (lit≤ tt)) (le-trans (ok .northing-size) (lit≤ tt))

@@ -34,7 +34,7 @@ use Rattle.azimuthal_forward.specs.Steps.{H, b, c, u, v, w, G, dE, dN}
 use Rattle.azimuthal_forward.specs.Answer.{nearness, eastingOf, northingOf, forwardOf, plane-told}
 use Rattle.azimuthal_inverse.specs.Steps.{at-origin}
 use Rattle.azimuthal_inverse.specs.Answer.{inverseOf, geodetic-told}
-use Rattle.parameters.proofs.AcceptedSet.{accepted, lat0-size, polar-cases}
+use Rattle.parameters.proofs.AcceptedSet.{accepted-fields, lat0-size, polar-cases}
 use Rattle.azimuthal_forward.proofs.ForwardLaws.{H-least}
 use Rattle.azimuthal_forward.proofs.AnswerLaws.{forward-too-far, forward-plane}
 use Rattle.azimuthal_inverse.proofs.AnswerLaws.{from-origin, inverse-on-plane}
@@ -220,12 +220,12 @@ pole-S p (inr e) =
 
 module _ (p : Parameters) (ok : setRefusal p ≡ 0) where
   φ0-size : natAbs (p .lat0 .0) ≤ right-angle
-  φ0-size = lat0-size (p .lat0) (accepted p ok .lat0-accepted)
+  φ0-size = lat0-size (p .lat0) (accepted-fields p ok .lat0-accepted)
 
   pub centre-plane : forwardOf p (p .lat0) (p .lon0) ≡ Plane (p .«false_easting») (p .«false_northing»)
   unfolding k φ0
   centre-plane =
-      to-false-origin p ok (p .lat0) (p .lon0) φ0-size (accepted p ok .lon0-size)
+      to-false-origin p ok (p .lat0) (p .lon0) φ0-size (accepted-fields p ok .lon0-size)
       (rw (none (p .lon0)) (centre-u p)) (rw (none (p .lon0)) (centre-w p)) (rw (none (p .lon0)) (centre-G p))
 
   pub centre-position : inverseOf p (p .«false_easting») (p .«false_northing») ≡ Position (p .lat0) (p .lon0)
@@ -233,7 +233,8 @@ module _ (p : Parameters) (ok : setRefusal p ≡ 0) where
   centre-position =
       let E = p .«false_easting» in
       let N = p .«false_northing» in
-      inverse-on-plane p E N ok (on-plane-by E N (le-trans (accepted p ok .easting-size) (lit≤ tt)) (le-trans (accepted p ok .northing-size) (lit≤ tt)))
+      let fields = accepted-fields p ok in
+      inverse-on-plane p E N ok (on-plane-by E N (le-trans (fields .easting-size) (lit≤ tt)) (le-trans (fields .northing-size) (lit≤ tt)))
       ∙ from-origin p (constantsOf p) (E -ℤ E) (N -ℤ N) (rw (none E, none N) refl)
 
   pub pole-plane : polar (p .lat0) ≡ true → (lon : ℤ) → natAbs lon ≤ half-turn → forwardOf p (p .lat0) lon ≡ Plane (p .«false_easting») (p .«false_northing»)

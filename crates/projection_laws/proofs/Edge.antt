@@ -25,7 +25,7 @@ use Rattle.azimuthal_forward.specs.Steps.{near-enough}
 use Rattle.azimuthal_inverse.specs.Steps.{K, X, Y, at-origin, on-map}
 use Rattle.sphere_points.specs.Sphere.{G, versineOf}
 use Rattle.azimuthal_inverse.specs.Answer.{answerFrom, inverseOf, geodetic-told}
-use Rattle.parameters.proofs.AcceptedSet.{accepted}
+use Rattle.parameters.proofs.AcceptedSet.{accepted-fields}
 use Rattle.constants.proofs.ConstantsLaws.{Sound, sound}
 use Rattle.azimuthal_inverse.proofs.AnswerLaws.{from-too-far, inverse-on-plane}
 use Rattle.projection_laws.specs.Theorems.{EdgeInverse}
@@ -88,10 +88,10 @@ module _ (p : Parameters) (ok : setRefusal p ≡ 0) where
   unfolding E constantsOf
   E-size =
       let east = abs-mul-le (pos 2) (RD p) (le-refl 2) (sound p ok .rd-between .most) in
-      le-trans (abs-add-le (p .«false_easting») (pos 2 *ℤ RD p) (accepted p ok .easting-size) east) (lit≤ tt)
+      le-trans (abs-add-le (p .«false_easting») (pos 2 *ℤ RD p) (accepted-fields p ok .easting-size) east) (lit≤ tt)
 
   N-size : natAbs (p .«false_northing») ≤ plane-limit
-  N-size = le-trans (accepted p ok .northing-size) (lit≤ tt)
+  N-size = le-trans (accepted-fields p ok .northing-size) (lit≤ tt)
 
   edge-dE : E -ℤ p .«false_easting» ≡ pos 2 *ℤ RD p
   unfolding E

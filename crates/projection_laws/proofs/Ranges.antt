@@ -33,7 +33,7 @@ use Rattle.sphere_points.specs.Sphere.{latitudeOf, longitudeOf}
 use Rattle.azimuthal_inverse.specs.Answer.{latitudeFrom, longitudeFrom, inverseFar, inverseRefusal, inverseLatitude, inverseLongitude}
 use Rattle.azimuthal_inverse.specs.Answer.{geodetic-told, inverseOf, inverseTold}
 use Rattle.azimuthal_inverse.proofs.AnswerLaws.{inverse-tells}
-use Rattle.parameters.proofs.AcceptedSet.{Accepted, accepted as accepted-set, lat0-size}
+use Rattle.parameters.proofs.AcceptedSet.{Accepted, accepted-fields, lat0-size}
 use Rattle.geodetic_search.proofs.GeodeticLaws.{geodetic-size}
 use Rattle.sphere_points.proofs.AngleLaws.{longitude-size}
 use Rattle.units.proofs.Spans.{wrapped-range}
@@ -78,7 +78,7 @@ inverse-range p E N =
     subst InRange (sym (inverse-tells p E N))
     (told-range (inverseRefusal p E N) (inverseLatitude p E N .0) (inverseLongitude p E N)
     (λ passed.
-    let ok = accepted-set p (both-passed (setRefusal p) (unless (on-plane E N) 3 (inverseFar p E N)) passed .0) in
+    let ok = accepted-fields p (both-passed (setRefusal p) (unless (on-plane E N) 3 (inverseFar p E N)) passed .0) in
     let dE = E -ℤ p .«false_easting» in
     let dN = N -ℤ p .«false_northing» in
     let longitude = longitude-range p ok (constantsOf p) dE dN in

@@ -26,7 +26,7 @@ use Rattle.azimuthal_inverse.specs.Steps.{K, on-map}
 use Rattle.sphere_points.specs.Sphere.{G as G′}
 use Rattle.azimuthal_inverse.specs.Answer.{answerFrom, inverseOf}
 use Rattle.units.proofs.Spans.{Between, size-inside}
-use Rattle.parameters.proofs.AcceptedSet.{accepted, lat0-size}
+use Rattle.parameters.proofs.AcceptedSet.{accepted-fields, lat0-size}
 use Rattle.constants.proofs.ConstantsLaws.{sound}
 use Rattle.azimuthal_inverse.proofs.AnswerLaws.{inverse-on-plane}
 use Rattle.round_trip.specs.RoundTrip.{longitudeGap, farthest-latitude, latitude-bound as latitude-limit, gap-bound}
@@ -57,7 +57,7 @@ module _ (p : Parameters) (φ : Geodetic) (lon : ℤ) where
   -- S0 and C0 are those of φ0
   centred : setRefusal p ≡ 0 → Centred p k
   unfolding constantsOf S0 C0 β0
-  centred ok = record { s0-is = refl; c0-is = refl; lat0-most = lat0-size (p .lat0) (accepted p ok .lat0-accepted) }
+  centred ok = record { s0-is = refl; c0-is = refl; lat0-most = lat0-size (p .lat0) (accepted-fields p ok .lat0-accepted) }
 
   -- what the steps ask
   given : setRefusal p ≡ 0 → natAbs (φ .0) ≤ farthest-latitude → pos unit ≤ℤ nearness p φ lon → Given k φ Δ
@@ -105,7 +105,7 @@ module _ (p : Parameters) (φ : Geodetic) (lon : ℤ) where
       record {
         φ′ = a .φ′;
         lon′ = a .lon′;
-        accepted = e ∙ a .answered;
+        answer-is = e ∙ a .answered;
         latitude-close = latitude-bound lon g a;
         longitude-close = longitude-bound lon g a;
       }
@@ -143,7 +143,7 @@ module _ (l n d l′ n′ d′ : ℕ) (more : l ≤ l′) (some : 0 < d) (ratio 
       record {
         φ′ = close .φ′;
         lon′ = close .lon′;
-        accepted = close .accepted;
+        answer-is = close .answer-is;
         latitude-close = le-trans (close .latitude-close) more;
         longitude-close = weaker-ratio (longitudeGap p φ lon (close .lon′)) (close .longitude-close);
       }

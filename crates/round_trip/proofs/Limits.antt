@@ -29,7 +29,7 @@ use Rattle.latitudes.specs.Latitude.{beta}
 use Rattle.constants.specs.Derived.{β0, S0, C0, constantsOf}
 use Rattle.azimuthal_forward.specs.Steps.{H, b, c, u, v, w, G, dE, dN, near-enough}
 use Rattle.azimuthal_forward.specs.Answer.{nearness, eastingOf, northingOf}
-use Rattle.parameters.proofs.AcceptedSet.{accepted}
+use Rattle.parameters.proofs.AcceptedSet.{accepted-fields}
 use Rattle.constants.proofs.ConstantsLaws.{Sound, sound}
 use Rattle.azimuthal_forward.proofs.ForwardLaws.{b-size, c-size, u-size, v-size, w-size, sum-size, H-least}
 use Rattle.round_trip.specs.RoundTrip.{ForwardOnPlane}
@@ -154,8 +154,8 @@ steps-on-plane p φ lon ok enough =
     let Δ : ℤ = lon -ℤ p .lon0 in
     let least : pos 20_000_000 ≤ℤ G k φ Δ = leZ-true (pos 20_000_000) (G k φ Δ) enough in
     ap₂ _&&_
-    (coordinate (p .«false_easting») (dE k φ Δ) (accepted p ok .easting-size) (dE-size k (sound p ok) (circle-of p) φ Δ least))
-    (coordinate (p .«false_northing») (dN k φ Δ) (accepted p ok .northing-size) (dN-size k (sound p ok) (circle-of p) φ Δ least))
+    (coordinate (p .«false_easting») (dE k φ Δ) (accepted-fields p ok .easting-size) (dE-size k (sound p ok) (circle-of p) φ Δ least))
+    (coordinate (p .«false_northing») (dN k φ Δ) (accepted-fields p ok .northing-size) (dN-size k (sound p ok) (circle-of p) φ Δ least))
 
 -- every accepted forward answer, of every accepted set, lies within the limits of refusal 3
 pub forward-on-plane : ForwardOnPlane

@@ -77,7 +77,7 @@ pub record Conditions (p : Parameters) (φ : Geodetic) (lon : ℤ) : Type 0 wher
 pub record CloseTo (latitude n d : ℕ) (p : Parameters) (φ : Geodetic) (lon : ℤ) (answer : GeodeticAnswer) : Type 0 where
   pub φ′ : Geodetic
   pub lon′ : ℤ
-  pub accepted : answer ≡ Position φ′ lon′
+  pub answer-is : answer ≡ Position φ′ lon′
   pub latitude-close : natAbs (φ′ .0 -ℤ φ .0) ≤ latitude
   pub longitude-close : (pos d *ℤ longitudeGap p φ lon lon′) ≤ℤ pos (n * unit)
 

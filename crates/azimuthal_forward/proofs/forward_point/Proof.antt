@@ -16,7 +16,7 @@ use Rattle.integers.specs.Near.{near}
 use Rattle.units.specs.Units.{full-turn}
 use Rattle.latitudes.specs.declared.Geodetic.{Geodetic}
 use Rattle.parameters.specs.declared.Parameters.{Parameters}
-use Rattle.parameters.proofs.AcceptedSet.{Accepted, accepted}
+use Rattle.parameters.proofs.AcceptedSet.{Accepted, accepted-fields}
 use Rattle.constants.specs.declared.Constants.{Constants}
 use Rattle.constants.specs.Derived.{constantsOf}
 use Rattle.constants.proofs.ConstantsLaws.{Sound, sound, sound-as}
@@ -70,16 +70,17 @@ globe-is c = c .is-on-globe .ensures ∙ ap (on-globe (c .before .args .lat)) (t
 
 returns : tie.Need-returns
 returns c =
-    sym (forward-off-globe _ _ _ (c .before .before .pre .accepted) (sym (globe-is (c .before)) ∙ not-true (c .before .is-on-globe .result) (c .if1 .taken)))
+    sym (forward-off-globe _ _ _ (c .before .before .pre .set-accepted)
+    (sym (globe-is (c .before)) ∙ not-true (c .before .is-on-globe .result) (c .if1 .taken)))
 
 on-it : (c : tie.Else1) → on-globe (start-at-else1 c .args .lat) (start-at-else1 c .args .lon) ≡ true
 on-it c = sym (globe-is (c .before)) ∙ not-false (c .before .is-on-globe .result) (c .if1 .left)
 
 set : (s : tie.Start) → Accepted (s .args .p)
-set s = accepted _ (s .pre .accepted)
+set s = accepted-fields _ (s .pre .set-accepted)
 
 constants : (s : tie.Start) → Sound (constantsOf (s .args .p))
-constants s = sound _ (s .pre .accepted)
+constants s = sound _ (s .pre .set-accepted)
 
 -- the code's Δ is the paper's, since it is at most a full turn
 Δ-is : (s : tie.Start) → back (s .args .lon) -ℤ back (s .args .p .lon0) ≡ Δ-of s
@@ -97,7 +98,7 @@ direction-of-requires : tie.Need-direction-of-requires
 direction-of-requires c κs =
     let e = c .before .before in
     let s = start-at-else1 e in
-    let k = sound-as _ _ (s .pre .accepted) (s .pre .constants) in
+    let k = sound-as _ _ (s .pre .set-accepted) (s .pre .constants) in
     (s .pre .table, k .small, k .centre, globe-sizes _ _ (on-it e) .0, rw (back-is (Δ-is s) (Δ-size e) (lit< tt)) (Δ-size e))
 
 direction-is : (c : tie.After-direction-of) → c .direction-of .result ≡ direction (start-at-direction-of c)
@@ -121,7 +122,7 @@ returns-2 : tie.Need-returns-2
 unfolding near-enough
 returns-2 c =
     let d = c .before .before in
-    sym (forward-too-far _ _ _ (start-at-direction-of d .pre .accepted) (on-it (else1-at-direction-of d)) (lt-leZ (far c)))
+    sym (forward-too-far _ _ _ (start-at-direction-of d .pre .set-accepted) (on-it (else1-at-direction-of d)) (lt-leZ (far c)))
 
 enough : (c : tie.Else2) → pos 20_000_000 ≤ℤ value nearness (start-at-direction-of (c .before .before))
 enough c = ltZ-false _ _ (rw (g-read (c .before .before)) at (c .if2 .left))
@@ -182,7 +183,7 @@ returns-3 c =
     let e = coordinate-at-coordinate2 c in
     let h = scale-at-coordinate e in
     ap₂ Plane (easting h .gives (e .coordinate .ok) (e .coordinate .ensures)) (northing h .gives (c .coordinate2 .ok) (c .coordinate2 .ensures))
-    ∙ sym (forward-plane _ _ _ (start-at-scale h .pre .accepted) (on-it (else1-at-direction-of (direction-of-at-scale h))) (le-leZ (enough (h .before))))
+    ∙ sym (forward-plane _ _ _ (start-at-scale h .pre .set-accepted) (on-it (else1-at-direction-of (direction-of-at-scale h))) (le-leZ (enough (h .before))))
 
 pub forward-point-spec : {M : Type 1} → statement M
 forward-point-spec =

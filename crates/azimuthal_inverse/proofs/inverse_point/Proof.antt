@@ -18,7 +18,7 @@ use Rattle.units.specs.Spans.{on-plane}
 use Rattle.billionths.proofs.Calls.{back}
 use Rattle.azimuthal_inverse.specs.declared.GeodeticAnswer.{GeodeticAnswer}
 use Rattle.azimuthal_inverse.specs.Answer.{answerFrom}
-use Rattle.parameters.proofs.AcceptedSet.{accepted}
+use Rattle.parameters.proofs.AcceptedSet.{accepted-fields}
 use Rattle.azimuthal_inverse.proofs.AnswerLaws.{inverse-off-plane, inverse-on-plane}
 use Rattle.units.proofs.Spans.{plane-sizes}
 use Rattle.azimuthal_inverse.proofs.inverse_point.Statement.{statement}
@@ -36,7 +36,8 @@ plane-is c = c .is-on-plane .ensures ∙ ap₂ on-plane (toZ-ofZ (c .before .fit
 
 returns : tie.Need-returns
 returns c =
-    sym (inverse-off-plane _ _ _ (c .before .before .pre .accepted) (sym (plane-is (c .before)) ∙ not-true (c .before .is-on-plane .result) (c .if1 .taken)))
+    sym (inverse-off-plane _ _ _ (c .before .before .pre .set-accepted)
+    (sym (plane-is (c .before)) ∙ not-true (c .before .is-on-plane .result) (c .if1 .taken)))
 
 on-it : (c : tie.Else1) → on-plane (start-at-else1 c .args .easting) (start-at-else1 c .args .northing) ≡ true
 on-it c = sym (plane-is (c .before)) ∙ not-false (c .before .is-on-plane .result) (c .if1 .left)
@@ -56,10 +57,10 @@ counted z o h l =
     }
 
 easting : (c : tie.Else1) → let s = start-at-else1 c in Counted (s .args .easting) (s .args .p .«false_easting»)
-easting c = counted _ _ (plane-sizes _ _ (on-it c) .0) (accepted _ (start-at-else1 c .pre .accepted) .easting-size)
+easting c = counted _ _ (plane-sizes _ _ (on-it c) .0) (accepted-fields _ (start-at-else1 c .pre .set-accepted) .easting-size)
 
 northing : (c : tie.Else1) → let s = start-at-else1 c in Counted (s .args .northing) (s .args .p .«false_northing»)
-northing c = counted _ _ (plane-sizes _ _ (on-it c) .1) (accepted _ (start-at-else1 c .pre .accepted) .northing-size)
+northing c = counted _ _ (plane-sizes _ _ (on-it c) .1) (accepted-fields _ (start-at-else1 c .pre .set-accepted) .northing-size)
 
 sub-unproject : tie.Need-sub-unproject
 sub-unproject c = easting (c .before .before) .within
@@ -82,7 +83,7 @@ returns-2 c =
     let e = c .before .before .before .before .before in
     let s = start-at-else1 e in
     from-same (s .args .p) (c .unproject .ensures) (s .pre .constants) (easting e .is) (northing e .is)
-    ∙ sym (inverse-on-plane _ _ _ (s .pre .accepted) (on-it e))
+    ∙ sym (inverse-on-plane _ _ _ (s .pre .set-accepted) (on-it e))
 
 pub inverse-point-spec : {M : Type 1} → statement M
 inverse-point-spec =

@@ -14,7 +14,7 @@ use Rattle.proof_kit.proofs.Size.{abs-sub-le}
 use Rattle.proof_kit.proofs.Order.{ltZ-true, ltZ-false, lt-leZ, le-leZ, pos-≤ℤ}
 use Rattle.units.specs.Units.{half-turn}
 use Rattle.units.proofs.Spans.{Between}
-use Rattle.parameters.proofs.AcceptedSet.{accepted}
+use Rattle.parameters.proofs.AcceptedSet.{accepted-fields}
 use Rattle.constants.specs.declared.Constants.{Constants}
 use Rattle.constants.proofs.ConstantsLaws.{Sound, sound-as}
 use Rattle.billionths.proofs.Calls.{back, back-is, fits-is, quotient-is}
@@ -50,13 +50,13 @@ abbrev value : {A : Type 0} → (Constants → ℤ → ℤ → A) → tie.Start 
 value q s = q (s .args .k) (s .args .de) (s .args .dn)
 
 lon0-small : (s : tie.Start) → natAbs (s .args .p .lon0) ≤ half-turn
-lon0-small s = accepted _ (s .pre .0 .accepted) .lon0-size
+lon0-small s = accepted-fields _ (s .pre .0 .set-accepted) .lon0-size
 
 lon0-read : (s : tie.Start) → back (s .args .p .lon0) ≡ s .args .p .lon0
 lon0-read s = kept _ (lon0-small s) (lit< tt)
 
 constants : (s : tie.Start) → Sound (s .args .k)
-constants s = sound-as _ _ (s .pre .0 .accepted) (s .pre .0 .constants)
+constants s = sound-as _ _ (s .pre .0 .set-accepted) (s .pre .0 .constants)
 
 is-origin-requires : tie.Need-is-origin-requires
 is-origin-requires c κs = search needs

@@ -13,7 +13,7 @@ use Rattle.latitudes.specs.declared.Authalic.{Authalic}
 use Rattle.latitudes.specs.Latitude.{beta}
 use Rattle.constants.specs.Derived.{e4, e6, J, seriesOf, β0, S0, C0, D, Rq, RD, RN, constantsOf}
 use Rattle.constants.proofs.SeriesLaws.{at-least, e4-size, J-high, series-small}
-use Rattle.parameters.proofs.AcceptedSet.{Accepted, accepted, lat0-size}
+use Rattle.parameters.proofs.AcceptedSet.{Accepted, accepted-fields, lat0-size}
 use Rattle.units.proofs.Spans.{Between}
 use Rattle.constants.proofs.ScaleLaws.{β0-size, D-between, e2-small, Rq-between}
 use Rattle.billionths.proofs.Calls.{back, product-is, quotient-is}
@@ -74,7 +74,7 @@ from-quotient c = from-product4 (c .before)
 -- ---- the set
 
 set : (c : tie.Start) → Accepted (c .args .p)
-set c = accepted (c .args .p) (c .pre .1)
+set c = accepted-fields (c .args .p) (c .pre .1)
 
 e2-size : (c : tie.Start) → natAbs (c .args .p .e2) ≤ 10_000_000
 e2-size c = e2-small (c .args .p) (set c)

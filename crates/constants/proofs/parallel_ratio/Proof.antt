@@ -42,35 +42,44 @@ product-requires-2 c κs =
     let start = c .before .before in
     rw (e2-is start, square-is c) (omega (arith, start .pre .1, square-size (start .args .lat0 .0)))
 
-v-is : (c : tie.After-product2) → pos unit -ℤ back (c .product2 .result) ≡ «V» (c .before .before .before .args .e2) (c .before .before .before .args .lat0)
+-- the start, seen from each call
+abbrev start-at-product2 : tie.After-product2 → tie.Start
+start-at-product2 c = c .before .before .before
+
+abbrev start-at-cosine : tie.After-cosine → tie.Start
+start-at-cosine c = start-at-product2 (c .before)
+
+abbrev start-at-root : tie.After-unit-root → tie.Start
+start-at-root c = start-at-cosine (c .before)
+
+v-is : (c : tie.After-product2) → pos unit -ℤ back (c .product2 .result) ≡ «V» (start-at-product2 c .args .e2) (start-at-product2 c .args .lat0)
 unfolding «V»
 v-is c =
-    ap (λ (z : ℤ). pos unit -ℤ z) (product-is (c .product2 .ok) (c .product2 .ensures) (e2-is (c .before .before .before)) (square-is (c .before)))
+    ap (λ (z : ℤ). pos unit -ℤ z) (product-is (c .product2 .ok) (c .product2 .ensures) (e2-is (start-at-product2 c)) (square-is (c .before)))
 
 sub-v : tie.Need-sub-v
-sub-v c = fits-is (v-is c) (v-about (c .before .before .before) .high) (lit< tt)
+sub-v c = fits-is (v-is c) (v-about (start-at-product2 c) .high) (lit< tt)
 
 cosine-requires : tie.Need-cosine-requires
 cosine-requires c κs = search needs
 
-cosine-is : (c : tie.After-cosine) → back (c .cosine .result) ≡ cosine (c .before .before .before .before .args .lat0 .0)
+cosine-is : (c : tie.After-cosine) → back (c .cosine .result) ≡ cosine (start-at-cosine c .args .lat0 .0)
 cosine-is c = returned (c .cosine .ok) ∙ c .cosine .ensures
 
 unit-root-requires : tie.Need-unit-root-requires
 unit-root-requires c κs =
-    let v = v-about (c .before .before .before .before) in
+    let v = v-about (start-at-cosine c) in
     rw (back-is (v-is (c .before)) (v .high) (lit< tt)) (at-least 0 (v .same) zero-le, omega arith)
 
 root-is : (c : tie.After-unit-root) →
-    back (c .unit-root .result) ≡ pos
-    (root (natAbs («V» (c .before .before .before .before .before .args .e2) (c .before .before .before .before .before .args .lat0) *ℤ U)))
+    back (c .unit-root .result) ≡ pos (root (natAbs («V» (start-at-root c .args .e2) (start-at-root c .args .lat0) *ℤ U)))
 root-is c =
-    let v = v-about (c .before .before .before .before .before) in
+    let v = v-about (start-at-root c) in
     unit-root-is (c .unit-root .ok) (c .unit-root .ensures) (back-is (v-is (c .before .before)) (v .high) (lit< tt))
 
 quotient-requires : tie.Need-quotient-requires
 quotient-requires c κs =
-    let start = c .before .before .before .before .before in
+    let start = start-at-root c in
     let e2 : ℤ = start .args .e2 in
     let φ0 = start .args .lat0 in
     rw (cosine-is (c .before), root-is c)

@@ -58,7 +58,7 @@ fill-requires c κs =
     let constants = c .before .before .before in
     let table = constants .before .before .before in
     let accepted = table .before in (
-      record { table = table .table .ensures; accepted = set-accepted accepted; constants = constants .constants-of .ensures },
+      record { table = table .table .ensures; set-accepted = set-accepted accepted; constants = constants .constants-of .ensures },
       equal-lengths _ _ _ _ _ (lengths-accepted (else1 accepted)),
     )
 

@@ -22,7 +22,7 @@ are-finite-requires c κs = search needs
 returns : tie.Need-returns
 returns c =
     let start = c .before .before in
-    sym (forward-not-finite (start .args .p) (start .args .at) (start .pre .accepted)
+    sym (forward-not-finite (start .args .p) (start .args .at) (start .pre .set-accepted)
     (sym (c .before .are-finite .ensures) ∙ not-true (c .before .are-finite .result) (c .if1 .taken)))
 
 is-within-globe-requires : tie.Need-is-within-globe-requires
@@ -34,7 +34,7 @@ finite c = sym (c .before .are-finite .ensures) ∙ not-false (c .before .are-fi
 returns-2 : tie.Need-returns-2
 returns-2 c =
     let start = c .before .before .before .before in
-    sym (forward-beyond (start .args .p) (start .args .at) (start .pre .accepted) (finite (c .before .before))
+    sym (forward-beyond (start .args .p) (start .args .at) (start .pre .set-accepted) (finite (c .before .before))
     (sym (c .before .is-within-globe .ensures) ∙ not-true (c .before .is-within-globe .result) (c .if2 .taken)))
 
 -- both coordinates are within their limits
@@ -76,7 +76,7 @@ returns-3 c =
     ∙ ap inMetres
     (c .before .forward-point .ensures
     ∙ ap₂ (forwardOf (s .args .p)) (ap geodetic (returned (latitude .ok) ∙ latitude .ensures)) (returned (longitude .ok) ∙ longitude .ensures))
-    ∙ sym (forward-converted (s .args .p) (s .args .at) (s .pre .accepted) (finite (known .before .before)) (inside known))
+    ∙ sym (forward-converted (s .args .p) (s .args .at) (s .pre .set-accepted) (finite (known .before .before)) (inside known))
 
 pub forward-pair-spec : {M : Type 1} → statement M
 forward-pair-spec =

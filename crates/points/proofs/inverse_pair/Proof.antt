@@ -19,7 +19,7 @@ are-finite-requires c κs = search needs
 returns : tie.Need-returns
 returns c =
     let start = c .before .before in
-    sym (inverse-not-finite (start .args .p) (start .args .at) (start .pre .accepted)
+    sym (inverse-not-finite (start .args .p) (start .args .at) (start .pre .set-accepted)
     (sym (c .before .are-finite .ensures) ∙ not-true (c .before .are-finite .result) (c .if1 .taken)))
 
 is-within-plane-requires : tie.Need-is-within-plane-requires
@@ -31,7 +31,7 @@ finite c = sym (c .before .are-finite .ensures) ∙ not-false (c .before .are-fi
 returns-2 : tie.Need-returns-2
 returns-2 c =
     let start = c .before .before .before .before in
-    sym (inverse-beyond (start .args .p) (start .args .at) (start .pre .accepted) (finite (c .before .before))
+    sym (inverse-beyond (start .args .p) (start .args .at) (start .pre .set-accepted) (finite (c .before .before))
     (sym (c .before .is-within-plane .ensures) ∙ not-true (c .before .is-within-plane .result) (c .if2 .taken)))
 
 -- both coordinates are within their limits
@@ -70,7 +70,7 @@ returns-3 c =
     ∙ ap inDegrees
     (c .before .inverse-point .ensures
     ∙ ap₂ (inverseOf (s .args .p)) (returned (easting .ok) ∙ easting .ensures) (returned (northing .ok) ∙ northing .ensures))
-    ∙ sym (inverse-converted (s .args .p) (s .args .at) (s .pre .accepted) (finite (known .before .before)) (inside known))
+    ∙ sym (inverse-converted (s .args .p) (s .args .at) (s .pre .set-accepted) (finite (known .before .before)) (inside known))
 
 pub inverse-pair-spec : {M : Type 1} → statement M
 inverse-pair-spec =

@@ -65,7 +65,7 @@ shared-slice-read-point-2 : tie.Need-shared-slice-read-point-2 Inv-loop μ-loop
 shared-slice-read-point-2 c = omega arith
 
 point-requires : tie.Need-point-requires Inv-loop μ-loop
-point-requires c κs = c .before .before .before .before .before .before .before .before .before .pre .0
+point-requires c κs = start (c .before .before .before) .pre .0
 
 mul-leading : tie.Need-mul-leading Inv-loop μ-loop
 mul-leading c = omega arith

@@ -10,7 +10,7 @@ use Rattle.proof_kit.proofs.Range.{code, fits, read, read-size, kept}
 use Rattle.proof_kit.proofs.Size.{as-size}
 use Rattle.units.specs.Units.{half-turn}
 use Rattle.constants.specs.declared.Constants.{Constants}
-use Rattle.parameters.proofs.AcceptedSet.{accepted}
+use Rattle.parameters.proofs.AcceptedSet.{accepted-fields}
 use Rattle.constants.proofs.ConstantsLaws.{Sound, sound-as}
 use Rattle.azimuthal_forward.specs.declared.Direction.{Direction}
 use Rattle.azimuthal_forward.specs.Steps.{G, directionOf}
@@ -24,10 +24,10 @@ abbrev start-at-direction-of : tie.After-direction-of → tie.Start
 start-at-direction-of c = c .before .before .before
 
 constants-sound : (c : tie.Start) → Sound (c .args .k)
-constants-sound c = sound-as (c .args .p) (c .args .k) (c .pre .0 .accepted) (c .pre .0 .constants)
+constants-sound c = sound-as (c .args .p) (c .args .k) (c .pre .0 .set-accepted) (c .pre .0 .constants)
 
 lon0-size : (c : tie.Start) → natAbs (c .args .p .lon0) ≤ half-turn
-lon0-size c = accepted (c .args .p) (c .pre .0 .accepted) .lon0-size
+lon0-size c = accepted-fields (c .args .p) (c .pre .0 .set-accepted) .lon0-size
 
 sub-direction-of : tie.Need-sub-direction-of
 sub-direction-of c =

@@ -7,12 +7,12 @@ use borrow.Author.Needs.{needs}
 use Rattle.parameters.specs.declared.Parameters.{Parameters}
 use Rattle.worst_gaps.specs.declared.tally.Tally.{Tally}
 use Rattle.worst_gaps.specs.Positions.{start, nextOf}
-use Rattle.worst_gaps.specs.Tallies.{nothing, stepOf, runOf}
+use Rattle.worst_gaps.specs.Tallies.{noTrips, stepOf, runOf}
 use Rattle.worst_gaps.proofs.trips.run.Statement.{statement}
 use Rattle.worst_gaps.proofs.trips.run.Tie as tie
 
 abbrev Inv-loop : tie.InvT-loop
-Inv-loop t p k count seen₀ s₀ i₀ seen s i = (i ≤ count) × (runOf p (count - i) s seen ≡ runOf p count start nothing)
+Inv-loop t p k count seen₀ s₀ i₀ seen s i = (i ≤ count) × (runOf p (count - i) s seen ≡ runOf p count start noTrips)
 
 abbrev μ-loop : tie.MeasureT-loop
 μ-loop t p k count seen₀ s₀ i₀ seen s i = count - i

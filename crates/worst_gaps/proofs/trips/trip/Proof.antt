@@ -16,7 +16,7 @@ use Rattle.azimuthal_inverse.specs.declared.GeodeticAnswer.{GeodeticAnswer}
 use Rattle.azimuthal_inverse.specs.declared.GeodeticAnswer.the-variants.{Position}
 use Rattle.round_trip.specs.RoundTrip.{turnGap, thereAndBack}
 use Rattle.worst_gaps.specs.Gaps.{latitudeGap, thousandthsOf, gapThousandths}
-use Rattle.worst_gaps.specs.Tallies.{added, compared, tripOf}
+use Rattle.worst_gaps.specs.Tallies.{withTrip, compared, tripOf}
 use Rattle.worst_gaps.proofs.ReadBack.{read-size, read-difference}
 use Rattle.worst_gaps.proofs.GapLaws.{weighted}
 use Rattle.worst_gaps.proofs.BackLaws.{back-on-globe}
@@ -99,7 +99,7 @@ longitude-gap-requires c κs =
     let start = start-at-back back in
     let given = start .pre .0 in (
       given .table,
-      sound-as (start .args .p) (start .args .k) (given .accepted) (given .constants) .small,
+      sound-as (start .args .p) (start .args .k) (given .set-accepted) (given .constants) .small,
       start .pre .1,
       read-size (start .args .lon) (start .pre .2) (lit< tt) (lit≤ tt),
       read-size (longitude back) (on-globe back .1) (lit< tt) (lit≤ tt),
@@ -132,7 +132,7 @@ returns-2 c =
     let back = back-at-add c in
     let start = start-at-back back in
     c .add .ensures
-    ∙ ap₂ (added (start .args .seen)) (north-is (c .before .before)) (east-is (c .before))
+    ∙ ap₂ (withTrip (start .args .seen)) (north-is (c .before .before)) (east-is (c .before))
     ∙ ap (λ (a : GeodeticAnswer). compared (start .args .p) (start .args .lat) (start .args .lon) a (start .args .seen)) (sym (came-back back))
 
 pub trip-spec : {M : Type 1} → statement M
