@@ -77,13 +77,13 @@ module _ {Given : Type 0} {test : ℕ → Bool} {n low high t : ℕ} (asked : (h
   half-fits = omega arith
 
   pub middle-asked : Given × (middle low high ≤ n)
-  middle-asked = (asked .1 .0, omega (arith, asked .1 .1 .inside))
+  middle-asked = (asked .1 .0, omega (arith, asked .1 .1 .high-most))
 
   module _ {r : Bool} (told : r ≡ test (middle low high)) where
     pub upper-asked : (low ≡ high → ⊥) → r ≡ true → (high - middle low high < t) × (Given × Span test n (middle low high) high)
     upper-asked differ pass = (
       omega (arith, asked .0, asked .1 .1 .ordered),
-      (asked .1 .0, record { ordered = omega arith; inside = asked .1 .1 .inside; low-passes = sym told ∙ pass }),
+      (asked .1 .0, record { ordered = omega arith; high-most = asked .1 .1 .high-most; low-passes = sym told ∙ pass }),
     )
 
     -- the middle fails: it is not the low end
@@ -103,7 +103,7 @@ module _ {Given : Type 0} {test : ℕ → Bool} {n low high t : ℕ} (asked : (h
           asked .1 .0,
           record {
             ordered = omega (arith, asked .1 .1 .ordered, differ);
-            inside = omega (arith, asked .1 .1 .inside);
+            high-most = omega (arith, asked .1 .1 .high-most);
             low-passes = asked .1 .1 .low-passes;
           },
         ),
@@ -111,14 +111,14 @@ module _ {Given : Type 0} {test : ℕ → Bool} {n low high t : ℕ} (asked : (h
 
       pub lower-same : (Given → Threshold test n) → greatest test (middle low high - 1) ≡ greatest test high
       lower-same threshold =
-          lower-half test n (threshold (asked .1 .0) .falls) low high (asked .1 .1 .inside) (asked .1 .1 .ordered) differ (sym told ∙ fail)
+          lower-half test n (threshold (asked .1 .0) .falls) low high (asked .1 .1 .high-most) (asked .1 .1 .ordered) differ (sym told ∙ fail)
 
 -- ---- a search about an estimate, at the measure t: r is what the call that asks whether the span holds the greatest told
 
 module _ {Given : Type 0} {n estimate margin t : ℕ} (asked : (n - margin ≡ t) × (Given × About n estimate margin)) where
   -- the span of this margin; `rest` is what it leaves of n above it
   pub ends-asked : {low rest : ℕ} → low ≡ estimate - margin → rest ≡ n - (estimate + margin) → Given × (low ≤ n) × (n - rest ≤ n)
-  ends-asked low-is rest-is = (asked .1 .0, omega (arith, asked .1 .1 .inside), omega arith)
+  ends-asked low-is rest-is = (asked .1 .0, omega (arith, asked .1 .1 .estimate-most), omega arith)
 
   module _ {test : ℕ → Bool} (threshold : Given → Threshold test n) where
     -- a span that holds the greatest is one to halve, and its greatest is that of all
@@ -138,7 +138,7 @@ module _ {Given : Type 0} {n estimate margin t : ℕ} (asked : (n - margin ≡ t
             asked .1 .0,
             record {
               ordered = le-trans below above;
-              inside = inside;
+              high-most = inside;
               low-passes = edge .falls low (greatest test n) below (greatest-le test n) (greatest-passes test (edge .zero-passes) n);
             },
           ),
@@ -157,8 +157,8 @@ module _ {Given : Type 0} {n estimate margin t : ℕ} (asked : (n - margin ≡ t
         where
           at : (n ≤ margin) ⊎ (margin < n) → margin < n
           at (inl l) =
-              let first : 0 ≡ low = omega (arith, asked .1 .1 .inside) in
-              let last : n - rest ≡ n = omega (arith, asked .1 .1 .inside) in
+              let first : 0 ≡ low = omega (arith, asked .1 .1 .estimate-most) in
+              let last : n - rest ≡ n = omega (arith, asked .1 .1 .estimate-most) in
               let passes : true ≡ test low = sym (threshold (asked .1 .0) .zero-passes) ∙ ap test first in
               let all = top-reached (ends-asked low-is rest-is) threshold passes refl last in
               absurd (not-both (told ∙ sym all) fail)
@@ -167,4 +167,4 @@ module _ {Given : Type 0} {n estimate margin t : ℕ} (asked : (n - margin ≡ t
       pub wider-asked : {wider : ℕ} → margin < wider → (margin < n → wider ≤ 16 * n) → (n - wider < t) × (Given × About n estimate wider)
       wider-asked grows stays =
           let below = margin-below in
-          (omega (arith, asked .0), (asked .1 .0, record { inside = asked .1 .1 .inside; small = stays below }))
+          (omega (arith, asked .0), (asked .1 .0, record { estimate-most = asked .1 .1 .estimate-most; margin-most = stays below }))

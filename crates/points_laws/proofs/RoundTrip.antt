@@ -45,7 +45,7 @@ float-round-trip p at pair near e =
       northing = northingCm pair;
       set-accepted = forward-passed p at pair e .set-passed;
       from-equator = near .0;
-      answered = forward-back p at pair e;
+      forward-is = forward-back p at pair e;
       near-centre = near .1;
     } in
     let trip = demand-3 p φ lon met in

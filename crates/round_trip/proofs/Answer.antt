@@ -62,7 +62,7 @@ pub record Answer (p : Parameters) (k : Constants) (dE dN : ℤ) : Type 0 where
   pub β′ : ℤ
   pub Δ′ : ℤ
   pub turns : ℤ
-  pub answered : answerFrom p k dE dN ≡ Position φ′ lon′
+  pub position-is : answerFrom p k dE dN ≡ Position φ′ lon′
   pub β′-size : natAbs β′ ≤ right-angle
   pub latitude : Sector (pos (radius (found k dE dN))) (found k dE dN .z) β′
   pub longitude : Sector (found k dE dN .f) (found k dE dN .east) Δ′
@@ -109,7 +109,7 @@ module _ (p : Parameters) (k : Constants) (sound : Sound k) (dE dN : ℤ) where
         β′ = latitudeOf s .0;
         Δ′ = longitudeOf s;
         turns = turned (p .lon0 +ℤ longitudeOf s) .turns;
-        answered = from-position p k dE dN e f g;
+        position-is = from-position p k dE dN e f g;
         β′-size = latitude-size s;
         latitude = own-latitude s;
         longitude = own-longitude s;
@@ -227,7 +227,7 @@ module _ (p : Parameters) (k : Constants) (sound : Sound k) (centred : Centred p
         β′ = β0;
         Δ′ = pos 0;
         turns = pos 0;
-        answered = from-origin p k (pos 0) (pos 0) refl;
+        position-is = from-origin p k (pos 0) (pos 0) refl;
         β′-size = β0-size;
         latitude = subst (λ (s : SpherePoint). Sector (pos (radius s)) (s .z) β0) (sym (found-zero k sound)) centre-latitude;
         longitude = subst (λ (s : SpherePoint). Sector (s .f) (s .east) (pos 0)) (sym (found-zero k sound)) (zero-sector (k .c0) c0-nonneg);

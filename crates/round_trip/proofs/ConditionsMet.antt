@@ -38,7 +38,7 @@ met p φ lon equator passes =
       northing = northingOf p φ lon;
       set-accepted = passes .0;
       from-equator = equator;
-      answered = forward-plane p φ lon (passes .0) (passes .1) (le-leZ {x = pos 20_000_000} {y = nearness p φ lon} enough);
+      forward-is = forward-plane p φ lon (passes .0) (passes .1) (le-leZ {x = pos 20_000_000} {y = nearness p φ lon} enough);
       near-centre = near-centre;
     }
 

@@ -105,7 +105,7 @@ module _ (p : Parameters) (φ : Geodetic) (lon : ℤ) where
       record {
         φ′ = a .φ′;
         lon′ = a .lon′;
-        answer-is = e ∙ a .answered;
+        answer-is = e ∙ a .position-is;
         latitude-close = latitude-bound lon g a;
         longitude-close = longitude-bound lon g a;
       }
@@ -119,8 +119,8 @@ module _ (p : Parameters) (φ : Geodetic) (lon : ℤ) where
       let ok = met .set-accepted in
       let g = given ok (met .from-equator) (met .near-centre) in
       let a = answer p k (sound p ok) (centred ok) eastward northward (shifts-on-map g) (shifts-near g) in
-      let there = accepted-answer p φ lon E N (met .answered) in
-      close-answer g a (inverseOf p E N) (inverse-is E N there (forward-on-plane p φ lon E N (met .answered)))
+      let there = accepted-answer p φ lon E N (met .forward-is) in
+      close-answer g a (inverseOf p E N) (inverse-is E N there (forward-on-plane p φ lon E N (met .forward-is)))
 
 -- at most 98 mas, and 53.5
 pub sharp : SharpRoundTrip
@@ -162,4 +162,4 @@ pub meets-demand-3 : (p : Parameters) (φ : Geodetic) (lon : ℤ) (result : Geod
     MeetsDemand3 p φ lon result
 unfolding MeetsDemand3 RoundTripAt thereAndBack
 meets-demand-3 p φ lon result e met =
-    subst (CloseTo latitude-limit gap-bound 1 p φ lon) (sym (e ∙ ap (thereAndBack p) (met .answered))) (demand-3 p φ lon met)
+    subst (CloseTo latitude-limit gap-bound 1 p φ lon) (sym (e ∙ ap (thereAndBack p) (met .forward-is))) (demand-3 p φ lon met)

@@ -70,7 +70,7 @@ pub record Conditions (p : Parameters) (φ : Geodetic) (lon : ℤ) : Type 0 wher
   pub northing : ℤ
   pub set-accepted : setRefusal p ≡ 0
   pub from-equator : natAbs (φ .0) ≤ farthest-latitude
-  pub answered : forwardOf p φ lon ≡ Plane easting northing
+  pub forward-is : forwardOf p φ lon ≡ Plane easting northing
   pub near-centre : pos least-nearness ≤ℤ nearness p φ lon
 
 -- An accepted answer whose latitude differs from φ by at most `latitude` mas, and whose longitude gap from lon, at φ, is at most n/d mas.
