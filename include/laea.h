@@ -26,11 +26,10 @@
  * set of ETRS89 / ETRS-LAEA (EPSG 3035).
  *
  * Refusals. Every value of every argument is taken, NaN and infinity too, and is answered or refused
- * with a number. The first that applies is told: of a single point 1, 2, 3, 4 in this order; of a
- * list call 5, 6, 1, and then of each point 2, 3, 4. Both coordinates are tested for 2 before either
- * is for 3. The limits of 3 are tested on the double itself, before it is rounded.
+ * with a number. The first that applies is told: of a single point 11 to 16, 2, 3, 4 in this order; of
+ * a list call 5, 6, 11 to 16, and then of each point 2, 3, 4. Both coordinates are tested for 2 before
+ * either is for 3. The limits of 3 are tested on the double itself, before it is rounded.
  *
- *   1  LAEA_BAD_SET        a field of the parameter set is outside its range
  *   2  LAEA_NOT_FINITE     a coordinate is NaN or infinite
  *   3  LAEA_OUT_OF_LIMITS  a latitude beyond 90 or a longitude beyond 180 degrees, either side of 0;
  *                          an easting or a northing beyond 50,000,000 m (5,000,000,000 cm), either
@@ -39,6 +38,16 @@
  *                          it, or where the map has no position
  *   5  LAEA_UNEQUAL_LISTS  the lists of a call are not of one length
  *   6  LAEA_LONG_LISTS     the lists are longer than LAEA_LIST_MOST
+ *
+ * and, where a field of the parameter set is outside its range (see laea_set), the number of the first
+ * such field:
+ *
+ *   11  LAEA_BAD_A               a
+ *   12  LAEA_BAD_E2              e2
+ *   13  LAEA_BAD_LAT0            lat0
+ *   14  LAEA_BAD_LON0            lon0
+ *   15  LAEA_BAD_FALSE_EASTING   false_easting
+ *   16  LAEA_BAD_FALSE_NORTHING  false_northing
  *
  * A refused call writes nothing: neither `out`, nor an element of a list, nor the count.
  *
@@ -75,17 +84,22 @@
 extern "C" {
 #endif
 
-/* 10,000 times the major number, 100 times the minor one, and the patch: 0.2.0. */
-#define LAEA_VERSION 200
+/* 10,000 times the major number, 100 times the minor one, and the patch: 0.3.0. */
+#define LAEA_VERSION 300
 
 /* What a call returns, and what a point's mark is. */
 #define LAEA_OK 0
-#define LAEA_BAD_SET 1
 #define LAEA_NOT_FINITE 2
 #define LAEA_OUT_OF_LIMITS 3
 #define LAEA_TOO_FAR 4
 #define LAEA_UNEQUAL_LISTS 5
 #define LAEA_LONG_LISTS 6
+#define LAEA_BAD_A 11
+#define LAEA_BAD_E2 12
+#define LAEA_BAD_LAT0 13
+#define LAEA_BAD_LON0 14
+#define LAEA_BAD_FALSE_EASTING 15
+#define LAEA_BAD_FALSE_NORTHING 16
 
 /* The most points that a list call takes. */
 #define LAEA_LIST_MOST 4096
@@ -159,16 +173,16 @@ static const laea_set LAEA_SPHERE = {
  * refusal number, and then out is as it was.
  */
 
-/* Degrees to metres: out is easting, northing. Refused 1, 2, 3, 4. */
+/* Degrees to metres: out is easting, northing. Refused 11 to 16, 2, 3, 4. */
 uint8_t laea_forward(laea_set set, double latitude, double longitude, double out[2]);
 
-/* Metres to degrees: out is latitude, longitude. Refused 1, 2, 3, 4. */
+/* Metres to degrees: out is latitude, longitude. Refused 11 to 16, 2, 3, 4. */
 uint8_t laea_inverse(laea_set set, double easting, double northing, double out[2]);
 
-/* mas to cm: out is easting, northing. Refused 1, 3, 4. */
+/* mas to cm: out is easting, northing. Refused 11 to 16, 3, 4. */
 uint8_t laea_forward_whole(laea_set set, int64_t latitude, int64_t longitude, int64_t out[2]);
 
-/* cm to mas: out is latitude, longitude. Refused 1, 3, 4. */
+/* cm to mas: out is latitude, longitude. Refused 11 to 16, 3, 4. */
 uint8_t laea_inverse_whole(laea_set set, int64_t easting, int64_t northing, int64_t out[2]);
 
 /*
@@ -183,8 +197,8 @@ uint8_t laea_cell(int64_t side, int64_t easting, int64_t northing, int64_t out[2
  *
  * The result is LAEA_OK, and then every element of the three lists is written: a point with an answer
  * has its two values and mark 0, any other has 0.0, 0.0 and its refusal number (2, 3 or 4) for mark;
- * and *count is how many points have an answer. Or the result is the call's refusal number, 5, 6 or
- * 1, and then nothing is written.
+ * and *count is how many points have an answer. Or the result is the call's refusal number, 5, 6 or one
+ * of 11 to 16, and then nothing is written.
  */
 
 /* Degrees to metres. */
@@ -205,7 +219,7 @@ uint8_t laea_inverse_list(laea_set set,
                           uint8_t *marks, size_t marks_length,
                           uint64_t *count);
 
-/* Whether a set is accepted: LAEA_OK or LAEA_BAD_SET. */
+/* Whether a set is accepted: LAEA_OK, or the number of the first field that is outside its range. */
 uint8_t laea_set_refusal(laea_set set);
 
 /* The version of the archive, counted as LAEA_VERSION is. */
@@ -217,8 +231,6 @@ static inline const char *laea_refusal_text(uint8_t number)
     switch (number) {
     case LAEA_OK:
         return "accepted";
-    case LAEA_BAD_SET:
-        return "a field of the parameter set is outside its range";
     case LAEA_NOT_FINITE:
         return "a coordinate is NaN or infinite";
     case LAEA_OUT_OF_LIMITS:
@@ -229,6 +241,18 @@ static inline const char *laea_refusal_text(uint8_t number)
         return "the lists are not of one length";
     case LAEA_LONG_LISTS:
         return "the lists are longer than 4,096";
+    case LAEA_BAD_A:
+        return "the set's semi-major axis is not from 100,000,000 to 1,000,000,000 cm";
+    case LAEA_BAD_E2:
+        return "the set's eccentricity squared is not from 0 to 10,000,000 billionths";
+    case LAEA_BAD_LAT0:
+        return "the set's lat0 is neither within 306,000,000 mas (85 degrees) nor a pole";
+    case LAEA_BAD_LON0:
+        return "the set's lon0 is not above -648,000,000 and at most 648,000,000 mas";
+    case LAEA_BAD_FALSE_EASTING:
+        return "the set's false easting is not within 1,000,000,000 cm";
+    case LAEA_BAD_FALSE_NORTHING:
+        return "the set's false northing is not within 1,000,000,000 cm";
     default:
         return "unknown refusal number";
     }

@@ -60,6 +60,31 @@ static void cell(int64_t side, int64_t easting, int64_t northing)
         printf("refused %d: %s\n", refusal, laea_refusal_text(refusal));
 }
 
+/* Sets with a wrong field: each call tells the first. */
+static void wrong_fields(void)
+{
+    laea_set wrong[6];
+
+    for (size_t i = 0; i < 6; i++)
+        wrong[i] = LAEA_ETRS_LAEA;
+    wrong[0].a = 63781370;
+    wrong[1].e2 = -1;
+    wrong[2].lat0 = INT64_C(306000001);
+    wrong[3].lon0 = INT64_C(-648000000);
+    wrong[4].false_easting = INT64_C(1000000001);
+    wrong[5].false_northing = INT64_C(-1000000001);
+    for (size_t i = 0; i < 6; i++) {
+        uint8_t refusal = laea_set_refusal(wrong[i]);
+        uint64_t count = 77;
+        uint8_t of_lists =
+            laea_forward_list(wrong[i], NULL, 0, NULL, 0, NULL, 0, NULL, 0, NULL, 0, &count);
+
+        printf("set refused %d, lists %d: %s\n", refusal, of_lists, laea_refusal_text(refusal));
+    }
+    wrong[5].lat0 = wrong[2].lat0;
+    printf("two fields wrong: refused %d\n", laea_set_refusal(wrong[5]));
+}
+
 static void list(laea_set set)
 {
     const double latitudes[POINTS] = {50.0, -52.0, 91.0, NAN};
@@ -113,7 +138,7 @@ int main(void)
     forward(alps, 47.0, 11.0);
     forward(LAEA_SPHERE, 0.0, 90.0);
     forward(beyond, 0.0, 90.0);
-    printf("a centre beyond 85 N: %s\n", laea_refusal_text(laea_set_refusal(beyond)));
+    wrong_fields();
     whole(LAEA_ETRS_LAEA, 180000000, 18000000);
     list(LAEA_ETRS_LAEA);
     other_lists(LAEA_ETRS_LAEA);

@@ -65,7 +65,7 @@ pub use set::Set;
 struct Readme;
 
 /// The version of this crate as one number: 200 is 0.2.0.
-pub const VERSION: u32 = 200;
+pub const VERSION: u32 = 300;
 
 /// The version of the archive that is linked, as one number like [`VERSION`].
 ///

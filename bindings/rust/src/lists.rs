@@ -15,7 +15,7 @@ impl Set {
     /// the easting goes to `leading` and the northing to `trailing`. An accepted point gets its
     /// answer and the mark 0, a refused one 0.0, 0.0 and its refusal's number, of which
     /// [`Refusal::from_number`] makes the refusal. Where the call itself is refused, with
-    /// [`Refusal::UnequalLists`], [`Refusal::LongLists`] or [`Refusal::BadSet`], nothing is written.
+    /// [`Refusal::UnequalLists`], [`Refusal::LongLists`] or the refusal of the set, nothing is written.
     ///
     /// ```
     /// use laea::{Refusal, Set};

@@ -5,9 +5,9 @@ use core::fmt;
 
 /// Why a call, or one point of a list, was refused.
 ///
-/// The names are those of `include/laea.h`. The first that applies is told: of a single point 1, 2,
-/// 3, 4 in this order; of a list call 5, 6, 1, and then of each point 2, 3, 4. Both coordinates are
-/// tested for 2 before either is for 3.
+/// The names are those of `include/laea.h`. The first that applies is told: of a single point 11 to
+/// 16, 2, 3, 4 in this order; of a list call 5, 6, 11 to 16, and then of each point 2, 3, 4. Both
+/// coordinates are tested for 2 before either is for 3.
 ///
 /// ```
 /// use laea::{Position, Refusal, Set};
@@ -21,8 +21,6 @@ use core::fmt;
 #[derive(Clone, Copy, Debug, PartialEq, Eq, Hash)]
 #[non_exhaustive]
 pub enum Refusal {
-    /// 1: a field of the parameter set is outside its range.
-    BadSet,
     /// 2: a coordinate is NaN or infinite.
     NotFinite,
     /// 3: a latitude beyond ±90°, a longitude beyond ±180°, an easting or a northing beyond
@@ -34,6 +32,18 @@ pub enum Refusal {
     UnequalLists,
     /// 6: the lists are longer than [`LIST_MOST`](crate::LIST_MOST).
     LongLists,
+    /// 11: [`Set::a`](crate::Set::a) is outside its range.
+    BadA,
+    /// 12: [`Set::e2`](crate::Set::e2) is outside its range.
+    BadE2,
+    /// 13: [`Set::lat0`](crate::Set::lat0) is outside its range.
+    BadLat0,
+    /// 14: [`Set::lon0`](crate::Set::lon0) is outside its range.
+    BadLon0,
+    /// 15: [`Set::false_easting`](crate::Set::false_easting) is outside its range.
+    BadFalseEasting,
+    /// 16: [`Set::false_northing`](crate::Set::false_northing) is outside its range.
+    BadFalseNorthing,
     /// A number that this version of the crate has no name for.
     Unknown(u8),
 }
@@ -52,12 +62,17 @@ impl Refusal {
     pub const fn from_number(number: u8) -> Option<Refusal> {
         Some(match number {
             0 => return None,
-            1 => Refusal::BadSet,
             2 => Refusal::NotFinite,
             3 => Refusal::OutOfLimits,
             4 => Refusal::TooFar,
             5 => Refusal::UnequalLists,
             6 => Refusal::LongLists,
+            11 => Refusal::BadA,
+            12 => Refusal::BadE2,
+            13 => Refusal::BadLat0,
+            14 => Refusal::BadLon0,
+            15 => Refusal::BadFalseEasting,
+            16 => Refusal::BadFalseNorthing,
             unknown => Refusal::Unknown(unknown),
         })
     }
@@ -65,12 +80,17 @@ impl Refusal {
     /// The refusal's number.
     pub const fn number(self) -> u8 {
         match self {
-            Refusal::BadSet => 1,
             Refusal::NotFinite => 2,
             Refusal::OutOfLimits => 3,
             Refusal::TooFar => 4,
             Refusal::UnequalLists => 5,
             Refusal::LongLists => 6,
+            Refusal::BadA => 11,
+            Refusal::BadE2 => 12,
+            Refusal::BadLat0 => 13,
+            Refusal::BadLon0 => 14,
+            Refusal::BadFalseEasting => 15,
+            Refusal::BadFalseNorthing => 16,
             Refusal::Unknown(number) => number,
         }
     }
@@ -78,12 +98,25 @@ impl Refusal {
     /// What the refusal means, in the words of `include/laea.h`.
     pub const fn text(self) -> &'static str {
         match self {
-            Refusal::BadSet => "a field of the parameter set is outside its range",
             Refusal::NotFinite => "a coordinate is NaN or infinite",
             Refusal::OutOfLimits => "a coordinate or a cell's side is beyond its limits",
             Refusal::TooFar => "too far from the centre of the projection",
             Refusal::UnequalLists => "the lists are not of one length",
             Refusal::LongLists => "the lists are longer than 4,096",
+            Refusal::BadA => {
+                "the set's semi-major axis is not from 100,000,000 to 1,000,000,000 cm"
+            }
+            Refusal::BadE2 => {
+                "the set's eccentricity squared is not from 0 to 10,000,000 billionths"
+            }
+            Refusal::BadLat0 => {
+                "the set's lat0 is neither within 306,000,000 mas (85 degrees) nor a pole"
+            }
+            Refusal::BadLon0 => {
+                "the set's lon0 is not above -648,000,000 and at most 648,000,000 mas"
+            }
+            Refusal::BadFalseEasting => "the set's false easting is not within 1,000,000,000 cm",
+            Refusal::BadFalseNorthing => "the set's false northing is not within 1,000,000,000 cm",
             Refusal::Unknown(_) => "unknown refusal number",
         }
     }
@@ -120,7 +153,8 @@ mod tests {
             let refusal = answer(number, ()).unwrap_err();
             assert_eq!(Refusal::from_number(number), Some(refusal));
             assert_eq!(refusal.number(), number);
-            assert_eq!(refusal == Refusal::Unknown(number), number > 6);
+            let known = matches!(number, 2..=6 | 11..=16);
+            assert_eq!(refusal == Refusal::Unknown(number), !known);
             assert!(refusal
                 .to_string()
                 .ends_with(&std::format!("(refusal {number})")));

@@ -6,8 +6,8 @@ use crate::Refusal;
 /// The parameter set of one projection: ellipsoid, natural origin and false origin.
 ///
 /// Angles are whole milliarcseconds (mas, 3,600,000 to the degree), lengths whole centimetres. Any
-/// numbers can be put in: a call with a field outside its range is refused with
-/// [`Refusal::BadSet`], and [`refusal`](Set::refusal) tells beforehand.
+/// numbers can be put in: a call with a field outside its range is refused with the number of the
+/// first such field, and [`refusal`](Set::refusal) tells beforehand.
 ///
 /// Name the fields that matter and take the others from a named set. The source then stays right
 /// when a later version adds a field:
@@ -68,7 +68,9 @@ impl Set {
     ///
     /// assert_eq!(Set::ETRS_LAEA.refusal(), None);
     /// let flat = Set { e2: 10_000_001, ..Set::ETRS_LAEA };
-    /// assert_eq!(flat.refusal(), Some(Refusal::BadSet));
+    /// assert_eq!(flat.refusal(), Some(Refusal::BadE2));
+    /// let flat_and_small = Set { a: 0, ..flat };
+    /// assert_eq!(flat_and_small.refusal(), Some(Refusal::BadA));
     /// ```
     pub fn refusal(&self) -> Option<Refusal> {
         // SAFETY: the call takes every value of its argument and writes nothing.

@@ -24,7 +24,7 @@ fn defined(header: &str, name: &str) -> u32 {
         .unwrap_or_else(|_| panic!("{name} is {value}"))
 }
 
-/// The header's name of a refusal: `BadSet` becomes `LAEA_BAD_SET`.
+/// The header's name of a refusal: `BadLat0` becomes `LAEA_BAD_LAT0`.
 fn name(refusal: Refusal) -> String {
     let mut name = String::from("LAEA");
     for letter in format!("{refusal:?}").chars() {

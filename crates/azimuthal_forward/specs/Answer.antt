@@ -29,7 +29,7 @@ module _ (p : Parameters) (φ : Geodetic) (lon : ℤ) where
   unfoldable pub forwardFar : ℕ
   forwardFar = unless (near-enough nearness) too-far 0
 
-  -- "Single points: 1, 2, 3, 4", each exactly under its condition; 2 is for doubles
+  -- the set's number, 3, 4, in this order, each exactly under its condition
   unfoldable pub forwardRefusal : ℕ
   forwardRefusal = firstOf (setRefusal p) (unless (on-globe φ lon) out-of-limits forwardFar)
 

@@ -46,7 +46,7 @@ module _ (p : Parameters) (E N : ℤ) where
   unfoldable pub inverseFar : ℕ
   inverseFar = farFrom p (constantsOf p) (E -ℤ p .«false_easting») (N -ℤ p .«false_northing»)
 
-  -- "Single points: 1, 2, 3, 4", each exactly under its condition; 2 is for doubles
+  -- the set's number, 3, 4, in this order, each exactly under its condition
   unfoldable pub inverseRefusal : ℕ
   inverseRefusal = firstOf (setRefusal p) (unless (on-plane E N) out-of-limits inverseFar)
 

@@ -1,17 +1,13 @@
--- ETRS-LAEA is an accepted set: each field is within its limits, by computation. So the steps may be handed its constants. Assumes nothing.
-use mathlib.Core.Path.{_≡_, refl, ap, _∙_}
+-- ETRS-LAEA is an accepted set, so the steps may be handed its constants. Assumes nothing.
+use mathlib.Core.Path.{_≡_, ap, _∙_}
 use mathlib.Core.List.{List}
 use Prim.Native.Nat.{ℕ}
-use Rattle.units.specs.Spans.{within, same}
 use Rattle.sine_table.specs.Table.{IsTable}
 use Rattle.parameters.specs.declared.Parameters.{Parameters}
-use Rattle.parameters.specs.ParameterSet.{accepted-a, accepted-e2, polar, accepted-lat0, accepted-lon0, accepted-false, setRefusal, etrsLaea}
+use Rattle.parameters.specs.ParameterSet.{setRefusal, etrsLaea}
+use Rattle.parameters.proofs.Fields.{etrs-accepted}
 use Rattle.constants.specs.declared.Constants.{Constants}
 use Rattle.constants.specs.Derived.{constantsOf, Prepared}
-
-pub etrs-accepted : setRefusal etrsLaea ≡ 0
-unfolding setRefusal accepted-a accepted-e2 accepted-lat0 polar same accepted-lon0 accepted-false within
-etrs-accepted = refl
 
 -- of the set that `Parameters::etrs_laea` answers
 module _ {p : Parameters} (is : p ≡ etrsLaea) where

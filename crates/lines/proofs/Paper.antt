@@ -31,7 +31,7 @@ use Rattle.requests.specs.Requests.{requestOf}
 use Rattle.lines.specs.Lines.{planeReply, positionReply, replyOf, answerText}
 use Rattle.replies.specs.Replies.{replyText}
 use Rattle.lines.specs.Theorems.{PaperLines}
-use Rattle.lines.proofs.Etrs.{etrs-accepted}
+use Rattle.parameters.proofs.Fields.{etrs-accepted}
 use Rattle.lines.proofs.Sizes.{k, Δ, G-least}
 
 -- the centre of ETRS-LAEA and the point opposite to it: their latitudes

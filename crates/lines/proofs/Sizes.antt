@@ -39,7 +39,7 @@ use Rattle.replies.specs.Replies.{replyText}
 use Rattle.replies.proofs.Sizes.{Small, reply-size}
 use Rattle.lines.specs.Lines.{planeReply, positionReply, replyOf, answerText, answerLine, answer-most}
 use Rattle.lines.specs.Theorems.{AnswerSize}
-use Rattle.lines.proofs.Etrs.{etrs-accepted}
+use Rattle.parameters.proofs.Fields.{etrs-accepted}
 
 -- what holds where a test is passed and where it fails
 tested : {A : Type 0} (t : Bool) → (t ≡ true → A) → (t ≡ false → A) → A

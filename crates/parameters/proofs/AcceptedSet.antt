@@ -60,12 +60,12 @@ pub record Accepted (p : Parameters) : Type 0 where
 pub accepted-fields : (p : Parameters) → setRefusal p ≡ 0 → Accepted p
 unfolding setRefusal accepted-a accepted-e2 accepted-lon0 accepted-false
 accepted-fields p h =
-    let a = link-passed (accepted-a (p .a)) 0 h in
-    let e2 = link-passed (accepted-e2 (p .e2)) 0 (a .1) in
-    let lat0 = link-passed (accepted-lat0 (p .lat0)) 0 (e2 .1) in
-    let lon0 = link-passed (accepted-lon0 (p .lon0)) 0 (lat0 .1) in
-    let easting = link-passed (accepted-false (p .«false_easting»)) 0 (lon0 .1) in
-    let northing = link-passed (accepted-false (p .«false_northing»)) 0 (easting .1) in
+    let a = link-passed (accepted-a (p .a)) _ h in
+    let e2 = link-passed (accepted-e2 (p .e2)) _ (a .1) in
+    let lat0 = link-passed (accepted-lat0 (p .lat0)) _ (e2 .1) in
+    let lon0 = link-passed (accepted-lon0 (p .lon0)) _ (lat0 .1) in
+    let easting = link-passed (accepted-false (p .«false_easting»)) _ (lon0 .1) in
+    let northing = link-passed (accepted-false (p .«false_northing»)) _ (easting .1) in
     let lon = both (ltZ (negℤ (pos half-turn)) (p .lon0)) (leZ (p .lon0) (pos half-turn)) (lon0 .0) in
     let above = ltZ-true (negℤ (pos half-turn)) (p .lon0) (lon .0) in
     record {

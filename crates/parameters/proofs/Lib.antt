@@ -1,1 +1,2 @@
 pub mod AcceptedSet
+pub mod Fields

@@ -1,1 +1,2 @@
 pub mod ParameterSet
+pub mod Fields

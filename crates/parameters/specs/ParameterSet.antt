@@ -6,7 +6,7 @@ use lib.IntN.{ℤ, pos, negℤ}
 use lib.Signed.{ltZ, leZ}
 use Rattle.units.specs.Units.{right-angle, half-turn}
 use Rattle.units.specs.Spans.{within, same, inside}
-use Rattle.units.specs.Refusals.{bad-set, unless}
+use Rattle.units.specs.Refusals.{bad-a, bad-e2, bad-lat0, bad-lon0, bad-false-easting, bad-false-northing, unless}
 use Rattle.latitudes.specs.declared.Geodetic.{Geodetic}
 use Rattle.latitudes.specs.Latitude.{latitude}
 use Rattle.parameters.specs.declared.Parameters.{Parameters}
@@ -34,14 +34,15 @@ accepted-lon0 lon0 = ltZ (negℤ (pos half-turn)) lon0 && leZ lon0 (pos half-tur
 unfoldable pub accepted-false : ℤ → Bool
 accepted-false z = inside 1_000_000_000 z
 
--- The refusal of the first field, in the table's order, that is not accepted; 0 is none: the set is accepted.
+-- "the first that applies in this order"; 0 is none: the set is accepted
 unfoldable pub setRefusal : Parameters → ℕ
 setRefusal p =
-    unless (accepted-a (p .a)) bad-set
-    (unless (accepted-e2 (p .e2)) bad-set
-    (unless (accepted-lat0 (p .lat0)) bad-set
-    (unless (accepted-lon0 (p .lon0)) bad-set
-    (unless (accepted-false (p .«false_easting»)) bad-set (unless (accepted-false (p .«false_northing»)) bad-set 0)))))
+    unless (accepted-a (p .a)) bad-a
+    (unless (accepted-e2 (p .e2)) bad-e2
+    (unless (accepted-lat0 (p .lat0)) bad-lat0
+    (unless (accepted-lon0 (p .lon0)) bad-lon0
+    (unless (accepted-false (p .«false_easting»)) bad-false-easting
+    (unless (accepted-false (p .«false_northing»)) bad-false-northing 0)))))
 
 -- a set by its fields, in the table's order
 abbrev pub setOf : ℤ → ℤ → ℤ → ℤ → ℤ → ℤ → Parameters

@@ -3,7 +3,12 @@ use latitudes::Geodetic;
 use units::LATITUDE_LEAST;
 use units::LATITUDE_MOST;
 use units::is_within;
-use units::refusals::BAD_SET;
+use units::refusals::BAD_A;
+use units::refusals::BAD_E2;
+use units::refusals::BAD_FALSE_EASTING;
+use units::refusals::BAD_FALSE_NORTHING;
+use units::refusals::BAD_LAT0;
+use units::refusals::BAD_LON0;
 use units::refusals::unless;
 ghost use mathlib.Core.Path.{_≡_};
 ghost use Rattle.parameters.specs.ParameterSet.{accepted-a, accepted-e2, polar, accepted-lat0, accepted-lon0, accepted-false, setRefusal, etrsLaea};
@@ -116,11 +121,11 @@ impl Parameters {
         ensures { λ r. ⌜ r ≡ setRefusal self ⌝ }
     {
         let lat0 = self.lat0;
-        let northing = unless(is_false(self.false_northing), BAD_SET, 0);
-        let easting = unless(is_false(self.false_easting), BAD_SET, northing);
-        let lon0 = unless(is_lon0(self.lon0), BAD_SET, easting);
-        let origin = unless(is_lat0(lat0), BAD_SET, lon0);
-        let e2 = unless(is_e2(self.e2), BAD_SET, origin);
-        unless(is_a(self.a), BAD_SET, e2)
+        let northing = unless(is_false(self.false_northing), BAD_FALSE_NORTHING, 0);
+        let easting = unless(is_false(self.false_easting), BAD_FALSE_EASTING, northing);
+        let lon0 = unless(is_lon0(self.lon0), BAD_LON0, easting);
+        let origin = unless(is_lat0(lat0), BAD_LAT0, lon0);
+        let e2 = unless(is_e2(self.e2), BAD_E2, origin);
+        unless(is_a(self.a), BAD_A, e2)
     }
 }

@@ -24,12 +24,12 @@ unfoldable pub lengthRefusal : ℕ → ℕ → ℕ → ℕ → ℕ → ℕ
 lengthRefusal a b c d e =
     unless (eqb b a && (eqb c a && (eqb d a && eqb e a))) unequal-lists (unless (leb a longest) long-lists 0)
 
--- "Order: lists 5, 6, 1", for two inputs, two outputs and the marks
+-- 5, 6, then the set's number, in this order, for two inputs, two outputs and the marks
 unfoldable pub listRefusal : Parameters → List Float → List Float → List Float → List Float → List ℕ → ℕ
 listRefusal p xs ys first second mark =
     firstOf (lengthRefusal (length xs) (length ys) (length first) (length second) (length mark)) (setRefusal p)
 
--- "Calls refused by 5, 6 or 1 write nothing": a lent list after the call, from what a call without refusal writes and what was there
+-- Refused calls "write nothing": a lent list after the call, from what a call without refusal writes and what was there
 abbrev pub written : {A : Type 0} → ℕ → List A → List A → List A
 written refusal new old = answered (λ (n : ℕ). old) refusal new
 

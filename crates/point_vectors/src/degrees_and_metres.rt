@@ -8,10 +8,16 @@ use crate::point_rows::INVERSE;
 use crate::point_rows::accepted;
 use crate::point_rows::refused;
 use crate::point_rows::row;
-use crate::sets::NO_SET;
+use crate::sets::ALL_WRONG;
 use crate::sets::SPHERE;
+use crate::sets::wrong;
 use parameters::Parameters;
-use units::refusals::BAD_SET;
+use units::refusals::BAD_A;
+use units::refusals::BAD_E2;
+use units::refusals::BAD_FALSE_EASTING;
+use units::refusals::BAD_FALSE_NORTHING;
+use units::refusals::BAD_LAT0;
+use units::refusals::BAD_LON0;
 use units::refusals::NOT_FINITE;
 use units::refusals::OUT_OF_LIMITS;
 use units::refusals::TOO_FAR;
@@ -148,11 +154,28 @@ pub(crate) fn not_numbers() {
     not_finite(-infinity());
 }
 
-// 2 is tested before 3, and 1 before both.
+// The field of this number is wrong, and the coordinates are refused too.
+fn bad_field(forward: bool, number: u8, far: f64, x: f64) {
+    let right = refused(number);
+    row(names::BAD_FIELD, forward, wrong(number), far, x, right);
+}
+
+// Each field alone, and all: the first is told.
+fn bad_fields(forward: bool, far: f64, x: f64) {
+    bad_field(forward, BAD_A, far, x);
+    bad_field(forward, BAD_E2, far, x);
+    bad_field(forward, BAD_LAT0, far, x);
+    bad_field(forward, BAD_LON0, far, x);
+    bad_field(forward, BAD_FALSE_EASTING, far, x);
+    bad_field(forward, BAD_FALSE_NORTHING, far, x);
+    row(names::BAD_SET, forward, ALL_WRONG, far, x, refused(BAD_A));
+}
+
+// 2 is tested before 3, and the set before both.
 fn order_of(forward: bool, far: f64, x: f64) {
     refused_row(names::BEYOND, forward, far, x, NOT_FINITE);
     refused_row(names::BEYOND, forward, x, far, NOT_FINITE);
-    row(names::BAD_SET, forward, NO_SET, far, x, refused(BAD_SET));
+    bad_fields(forward, far, x);
 }
 
 pub(crate) fn order() {

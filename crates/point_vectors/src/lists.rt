@@ -4,10 +4,16 @@ use crate::list_rows::list_row;
 use crate::names;
 use crate::point_rows::FORWARD;
 use crate::point_rows::INVERSE;
-use crate::sets::NO_SET;
+use crate::sets::ALL_WRONG;
+use crate::sets::wrong;
 use judging::doubles::Digest;
 use parameters::Parameters;
-use units::refusals::BAD_SET;
+use units::refusals::BAD_A;
+use units::refusals::BAD_E2;
+use units::refusals::BAD_FALSE_EASTING;
+use units::refusals::BAD_FALSE_NORTHING;
+use units::refusals::BAD_LAT0;
+use units::refusals::BAD_LON0;
 use units::refusals::LONG_LISTS;
 use units::refusals::UNEQUAL_LISTS;
 ghost use Prim.Native.Nat.{_≤_};
@@ -88,7 +94,21 @@ fn refused(k: usize, p: Parameters, forward: bool, n: usize, m: usize, number: u
     list_refused(k, p, forward, n, n, n, n, m, number);
 }
 
-// 5 is tested before 6, 6 before 1, and 1 for lists of length 0 too.
+// The field of this number is wrong, in a list of one point.
+fn bad_field(forward: bool, number: u8) {
+    refused(names::BAD_FIELD_1, wrong(number), forward, 1, 1, number);
+}
+
+fn bad_fields(forward: bool) {
+    bad_field(forward, BAD_A);
+    bad_field(forward, BAD_E2);
+    bad_field(forward, BAD_LAT0);
+    bad_field(forward, BAD_LON0);
+    bad_field(forward, BAD_FALSE_EASTING);
+    bad_field(forward, BAD_FALSE_NORTHING);
+}
+
+// 5 is tested before 6, 6 before the set, and the set for lists of length 0 too.
 fn order(forward: bool) {
     let p = Parameters::etrs_laea();
     refused(names::LIST_OF_4097, p, forward, 4_097, 4_097, LONG_LISTS);
@@ -102,20 +122,29 @@ fn order(forward: bool) {
     );
     refused(
         names::BAD_SET_4097,
-        NO_SET,
+        ALL_WRONG,
         forward,
         4_097,
         4_097,
         LONG_LISTS,
     );
-    refused(names::BAD_SET_UNEQUAL, NO_SET, forward, 3, 2, UNEQUAL_LISTS);
-    refused(names::BAD_SET_1, NO_SET, forward, 1, 1, BAD_SET);
-    refused(names::BAD_SET_0, NO_SET, forward, 0, 0, BAD_SET);
+    refused(
+        names::BAD_SET_UNEQUAL,
+        ALL_WRONG,
+        forward,
+        3,
+        2,
+        UNEQUAL_LISTS,
+    );
+    refused(names::BAD_SET_1, ALL_WRONG, forward, 1, 1, BAD_A);
+    refused(names::BAD_SET_0, ALL_WRONG, forward, 0, 0, BAD_A);
 }
 
 pub(crate) fn refusals() {
     every_unequal(FORWARD);
     order(FORWARD);
+    bad_fields(FORWARD);
     every_unequal(INVERSE);
     order(INVERSE);
+    bad_fields(INVERSE);
 }

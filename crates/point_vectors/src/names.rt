@@ -79,6 +79,11 @@ pub(crate) const BAD_SET_0: usize = 36;
 
 pub(crate) const MIXED_LIST: usize = 37;
 
+// Sets with one field wrong, at a point and in a list.
+pub(crate) const BAD_FIELD: usize = 38;
+
+pub(crate) const BAD_FIELD_1: usize = 39;
+
 pub(crate) fn name(k: usize) {
     line(
         b"centre
@@ -118,7 +123,9 @@ bad set, 4097
 bad set, unequal
 bad set, 1
 bad set, 0
-mixed list",
+mixed list
+bad field
+bad field, 1",
         k,
     );
 }

@@ -18,7 +18,7 @@ use Rattle.pairs.specs.declared.Row.{Row}
 use Rattle.pairs.specs.Pairs.{latitudeMas, longitudeMas, eastingCm, northingCm, planePair, geodeticPair, acceptedRow, refusedRow}
 use Rattle.pairs.specs.Pairs.{areFinite, withinGlobe, withinPlane}
 
--- ---- "Single points: 1, 2, 3, 4", each exactly under its condition; 4 is that of the whole-unit steps for the rounded position
+-- ---- The set's number, 2, 3, 4, in this order, each exactly under its condition; 4 is that of the whole-unit steps for the rounded position.
 
 unfoldable pub pairRefusal : Parameters → Float → Float → Bool → ℕ → ℕ
 pairRefusal p x y inside far = firstOf (setRefusal p) (unless (areFinite x y) not-finite (unless inside out-of-limits far))

@@ -10,7 +10,9 @@ use lib.Ieee.{nan, lt, neg}
 use Rattle.units.specs.Spans.{within, same}
 use Rattle.units.specs.declared.answers.Told.{Told}
 use Rattle.floats.specs.Limits.{isFinite, beyond, withinLimit}
-use Rattle.parameters.specs.ParameterSet.{polar, accepted-a, accepted-e2, accepted-lat0, accepted-lon0, accepted-false, setRefusal, etrsLaea}
+use Rattle.parameters.specs.ParameterSet.{etrsLaea}
+use Rattle.parameters.specs.Fields.{numberOf, wrong}
+use Rattle.parameters.proofs.Fields.{not-none, etrs-accepted, wrong-refused}
 use Rattle.azimuthal_forward.specs.declared.PlaneAnswer.{PlaneAnswer}
 use Rattle.azimuthal_forward.specs.declared.PlaneAnswer.the-variants.{Plane, Refused}
 use Rattle.azimuthal_forward.specs.Answer.{forwardOf, plane-told}
@@ -18,21 +20,12 @@ use Rattle.azimuthal_inverse.specs.declared.GeodeticAnswer.{GeodeticAnswer}
 use Rattle.azimuthal_inverse.specs.declared.GeodeticAnswer.the-variants.{Position, Refused as NotFound}
 use Rattle.azimuthal_inverse.specs.Answer.{inverseOf, geodetic-told}
 use Rattle.latitudes.specs.Latitude.{latitude}
-use Rattle.projection_laws.specs.Theorems.{sizeless}
 use Rattle.projection_laws.proofs.Witnesses.{forward-witnesses as whole-forward, inverse-witnesses as whole-inverse}
 use Rattle.pairs.specs.Pairs.{degrees, metres, zeroFloat, areFinite, withinGlobe, withinPlane, plane-row, geodetic-row, inMetres, inDegrees}
 use Rattle.points.proofs.AnswerLaws.{forward-set-refused, forward-not-finite, forward-beyond, inverse-set-refused, inverse-not-finite, inverse-beyond}
 use Rattle.point_lists.specs.Lists.{lengthRefusal, listRefusal}
 use Rattle.points_laws.specs.Theorems.{past-pole, past-plane, ForwardWitnesses, InverseWitnesses, ListWitnesses}
 use Rattle.points_laws.proofs.Whole.{forward-whole, inverse-whole}
-
--- the two sets, tested
-sets : (setRefusal etrsLaea ≡ 0) × (setRefusal sizeless ≡ 1)
-unfolding setRefusal accepted-a accepted-e2 accepted-lat0 polar same accepted-lon0 accepted-false within
-sets = (refl, refl)
-
-not-none : _≡_ {A = ℕ} 1 0 → ⊥
-not-none e = omega arith
 
 -- the tests of the pairs
 nan-tests : (areFinite past-pole nan ≡ false) × (areFinite past-plane nan ≡ false)
@@ -58,24 +51,24 @@ degrees-mark (NotFound n) = refl
 
 pub forward-witnesses : ForwardWitnesses
 forward-witnesses = (
-  forward-set-refused sizeless (degrees past-pole nan) 1 not-none (sets .1),
-  forward-not-finite etrsLaea (degrees past-pole nan) (sets .0) (nan-tests .0),
-  forward-beyond etrsLaea (degrees past-pole zeroFloat) (sets .0) (finite-tests .0) (limit-tests .0),
-  ap (λ r. plane-row r .mark) (forward-whole etrsLaea (sets .0) (negℤ (pos 187_200_000)) (negℤ (pos 612_000_000)) (lit≤ tt) (lit≤ tt))
+  λ f. forward-set-refused (wrong f) (degrees past-pole nan) (numberOf f) (not-none f) (wrong-refused f),
+  forward-not-finite etrsLaea (degrees past-pole nan) etrs-accepted (nan-tests .0),
+  forward-beyond etrsLaea (degrees past-pole zeroFloat) etrs-accepted (finite-tests .0) (limit-tests .0),
+  ap (λ r. plane-row r .mark) (forward-whole etrsLaea etrs-accepted (negℤ (pos 187_200_000)) (negℤ (pos 612_000_000)) (lit≤ tt) (lit≤ tt))
       ∙ metres-mark (forwardOf etrsLaea (latitude (negℤ (pos 187_200_000))) (negℤ (pos 612_000_000)))
       ∙ ap (λ (t : Told). t .refusal) (whole-forward .3),
 )
 
 pub inverse-witnesses : InverseWitnesses
 inverse-witnesses = (
-  inverse-set-refused sizeless (metres past-plane nan) 1 not-none (sets .1),
-  inverse-not-finite etrsLaea (metres past-plane nan) (sets .0) (nan-tests .1),
-  inverse-beyond etrsLaea (metres past-plane zeroFloat) (sets .0) (finite-tests .1) (limit-tests .1),
-  ap (λ r. geodetic-row r .mark) (inverse-whole etrsLaea (sets .0) (pos 5_000_000_000) (pos 0) (lit≤ tt) (lit≤ tt))
+  λ f. inverse-set-refused (wrong f) (metres past-plane nan) (numberOf f) (not-none f) (wrong-refused f),
+  inverse-not-finite etrsLaea (metres past-plane nan) etrs-accepted (nan-tests .1),
+  inverse-beyond etrsLaea (metres past-plane zeroFloat) etrs-accepted (finite-tests .1) (limit-tests .1),
+  ap (λ r. geodetic-row r .mark) (inverse-whole etrsLaea etrs-accepted (pos 5_000_000_000) (pos 0) (lit≤ tt) (lit≤ tt))
       ∙ degrees-mark (inverseOf etrsLaea (pos 5_000_000_000) (pos 0))
       ∙ ap (λ (t : Told). t .refusal) (whole-inverse .3),
 )
 
 pub list-witnesses : ListWitnesses
 unfolding listRefusal lengthRefusal
-list-witnesses = (refl, refl, sets .1, sets .0)
+list-witnesses = (refl, refl, wrong-refused, etrs-accepted)

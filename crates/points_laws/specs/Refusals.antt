@@ -4,14 +4,15 @@
 use Prim.Native.Nat.{ℕ}
 use mathlib.Core.Path.{_≡_}
 use mathlib.Core.Bool.{Bool, true, false}
-use mathlib.Core.List.{List, [], _∷_}
+use mathlib.Core.List.{List, [], _∷_, _++_}
 use mathlib.Core.Logic.{_⊎_, _↔_}
 use lib.IntN.{ℤ, pos, _-ℤ_}
 use lib.Signed.{_<ℤ_}
 use lib.Ieee.{Float}
-use Rattle.units.specs.Refusals.{bad-set, not-finite, out-of-limits, too-far, unequal-lists, long-lists, OneOf}
+use Rattle.units.specs.Refusals.{not-finite, out-of-limits, too-far, unequal-lists, long-lists, OneOf}
 use Rattle.parameters.specs.declared.Parameters.{Parameters}
 use Rattle.parameters.specs.ParameterSet.{setRefusal}
+use Rattle.parameters.specs.Fields.{set-refusals}
 use Rattle.constants.specs.declared.Constants.{Constants}
 use Rattle.constants.specs.Derived.{constantsOf}
 use Rattle.azimuthal_forward.specs.Answer.{nearness}
@@ -31,7 +32,7 @@ use Rattle.row_lists.specs.Rows.{rowOf}
 use Rattle.point_lists.specs.Lists.{listRefusal, ListCall}
 use Rattle.points_laws.specs.Theorems.{AtEachIndex}
 
--- ---- which numbers there are: "Order: lists 5, 6, 1, then each point 2, 3, 4 .. Single points: 1, 2, 3, 4." 0 is none.
+-- ---- Which numbers there are: of lists 5, 6 and the set's, then of each point 2, 3, 4; of single points the set's, 2, 3, 4. 0 is none.
 
 -- of a point with an accepted set
 abbrev pub point-refusals : List ℕ
@@ -39,11 +40,11 @@ point-refusals = not-finite ∷ out-of-limits ∷ too-far ∷ []
 
 -- of a single call
 abbrev pub pair-refusals : List ℕ
-pair-refusals = bad-set ∷ point-refusals
+pair-refusals = set-refusals ++ point-refusals
 
 -- of a list call
 abbrev pub list-refusals : List ℕ
-list-refusals = unequal-lists ∷ long-lists ∷ bad-set ∷ []
+list-refusals = unequal-lists ∷ long-lists ∷ set-refusals
 
 abbrev pub ForwardNumbers : Type 0
 ForwardNumbers = (p : Parameters) (at : GeodeticPair) → OneOf (0 ∷ pair-refusals) (forwardPairRefusal p at)

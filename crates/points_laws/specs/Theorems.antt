@@ -8,16 +8,16 @@ use lib.IntN.{ℤ, pos, negℤ, natAbs}
 use lib.Ieee.{Float, nan, fin}
 use lib.ListN.{length, getD, replicate}
 use Rattle.units.specs.Units.{right-angle, half-turn, plane-limit}
-use Rattle.units.specs.Refusals.{bad-set, not-finite, out-of-limits, too-far, unequal-lists, long-lists}
+use Rattle.units.specs.Refusals.{not-finite, out-of-limits, too-far, unequal-lists, long-lists}
 use Rattle.floats.specs.Limits.{isFinite}
 use Rattle.latitudes.specs.Latitude.{latitude}
 use Rattle.parameters.specs.declared.Parameters.{Parameters}
 use Rattle.azimuthal_forward.specs.declared.PlaneAnswer.the-variants.{Plane}
 use Rattle.azimuthal_inverse.specs.declared.GeodeticAnswer.the-variants.{Position}
 use Rattle.parameters.specs.ParameterSet.{setRefusal, etrsLaea}
+use Rattle.parameters.specs.Fields.{Field, numberOf, wrong, all-wrong}
 use Rattle.azimuthal_forward.specs.Answer.{forwardOf}
 use Rattle.azimuthal_inverse.specs.Answer.{inverseOf}
-use Rattle.projection_laws.specs.Theorems.{sizeless}
 use Rattle.pairs.specs.declared.GeodeticPair.{GeodeticPair}
 use Rattle.pairs.specs.declared.PlanePair.{PlanePair}
 use Rattle.pairs.specs.declared.Row.{Row}
@@ -46,7 +46,7 @@ InverseConverted =
     inverseMetres p at ≡ Degrees pair →
     Degrees pair ≡ inDegrees (inverseOf p (eastingCm at) (northingCm at))
 
--- Demand 1: "It answers with finite coordinates or one of the six refusals".
+-- Demand 1: "It answers with finite coordinates".
 abbrev pub ForwardFinite : Type 0
 ForwardFinite =
     (p : Parameters) (at : GeodeticPair) (pair : PlanePair) →
@@ -144,7 +144,7 @@ ListCounted =
     × (length second′ ≡ length xs)
     × (length mark′ ≡ length xs)
 
--- a call refused by 5, 6 or 1 leaves every lent element as it was and returns the number
+-- a refused call leaves every lent element as it was and returns the number
 abbrev pub ListRefused : Type 0
 ListRefused =
     (p : Parameters) (row : Float → Float → Row) (xs ys first first′ second second′ : List Float) (mark mark′ : List ℕ) →
@@ -166,14 +166,14 @@ past-plane = fin false 50_000_001 (pos 0)
 -- told of it is its number
 abbrev pub ForwardWitnesses : Type 0
 ForwardWitnesses =
-    (forwardDegrees sizeless (degrees past-pole nan) ≡ PlaneRefused bad-set)
+    ((f : Field) → forwardDegrees (wrong f) (degrees past-pole nan) ≡ PlaneRefused (numberOf f))
     × (forwardDegrees etrsLaea (degrees past-pole nan) ≡ PlaneRefused not-finite)
     × (forwardDegrees etrsLaea (degrees past-pole zeroFloat) ≡ PlaneRefused out-of-limits)
     × (plane-row (forwardDegrees etrsLaea (geodeticPair (negℤ (pos 187_200_000)) (negℤ (pos 612_000_000)))) .mark ≡ too-far)
 
 abbrev pub InverseWitnesses : Type 0
 InverseWitnesses =
-    (inverseMetres sizeless (metres past-plane nan) ≡ NotFound bad-set)
+    ((f : Field) → inverseMetres (wrong f) (metres past-plane nan) ≡ NotFound (numberOf f))
     × (inverseMetres etrsLaea (metres past-plane nan) ≡ NotFound not-finite)
     × (inverseMetres etrsLaea (metres past-plane zeroFloat) ≡ NotFound out-of-limits)
     × (geodetic-row (inverseMetres etrsLaea (planePair (pos 5_000_000_000) (pos 0))) .mark ≡ too-far)
@@ -185,10 +185,10 @@ long = replicate 4_097 zeroFloat
 abbrev pub long-marks : List ℕ
 long-marks = replicate 4_097 0
 
--- 5 before 6, 6 before 1, and empty lists with a set that is refused are refused 1
+-- 5 before 6, 6 before the set's number, which empty lists are refused by too
 abbrev pub ListWitnesses : Type 0
 ListWitnesses =
-    (listRefusal sizeless long [] long long long-marks ≡ unequal-lists)
-    × (listRefusal sizeless long long long long long-marks ≡ long-lists)
-    × (listRefusal sizeless [] [] [] [] [] ≡ bad-set)
+    (listRefusal all-wrong long [] long long long-marks ≡ unequal-lists)
+    × (listRefusal all-wrong long long long long long-marks ≡ long-lists)
+    × ((f : Field) → listRefusal (wrong f) [] [] [] [] [] ≡ numberOf f)
     × (listRefusal etrsLaea [] [] [] [] [] ≡ 0)

@@ -10,7 +10,9 @@ use lib.IntN.{ℤ, pos, negℤ, natAbs, _*ℤ_}
 use lib.Signed.{_<ℤ_, leZ}
 use Rattle.proof_kit.proofs.Order.{order, lt-leZ}
 use Rattle.units.specs.Spans.{within, same, on-plane}
-use Rattle.parameters.specs.ParameterSet.{polar, accepted-a, accepted-e2, accepted-lat0, accepted-lon0, accepted-false, setRefusal, etrsLaea}
+use Rattle.parameters.specs.ParameterSet.{etrsLaea}
+use Rattle.parameters.specs.Fields.{numberOf, wrong}
+use Rattle.parameters.proofs.Fields.{not-none, etrs-accepted, wrong-refused}
 use Rattle.constants.specs.Derived.{constantsOf}
 use Rattle.azimuthal_forward.specs.Answer.{on-globe, plane-told}
 use Rattle.azimuthal_inverse.specs.Steps.{at-origin, on-map}
@@ -20,17 +22,9 @@ use Rattle.azimuthal_forward.proofs.AnswerLaws.{forward-set-refused, forward-of
 use Rattle.azimuthal_inverse.proofs.AnswerLaws.{from-off-map, inverse-set-refused, inverse-off-plane, inverse-on-plane}
 use Rattle.azimuthal_inverse.specs.Answer.{geodetic-told}
 use Rattle.latitudes.specs.Latitude.{latitude}
-use Rattle.projection_laws.specs.Theorems.{sizeless, ForwardWitnesses, InverseWitnesses}
+use Rattle.projection_laws.specs.Theorems.{ForwardWitnesses, InverseWitnesses}
 use Rattle.projection_laws.proofs.Centre.{centre-forward, centre-inverse, opposite-forward}
 use Rattle.projection_laws.proofs.Tests.{first-fails, second-fails, on-plane-by}
-
--- the two sets, tested
-sets : (setRefusal etrsLaea ≡ 0) × (setRefusal sizeless ≡ 1)
-unfolding setRefusal accepted-a accepted-e2 accepted-lat0 polar same accepted-lon0 accepted-false within
-sets = (refl, refl)
-
-not-none : _≡_ {A = ℕ} 1 0 → ⊥
-not-none e = omega arith
 
 -- ---- forward
 
@@ -40,10 +34,10 @@ beyond-pole = refl
 
 pub forward-witnesses : ForwardWitnesses
 forward-witnesses = (
-  centre-forward etrsLaea (sets .0),
-  ap plane-told (forward-set-refused sizeless (latitude (pos 187_200_000)) (pos 36_000_000) 1 not-none (sets .1)),
-  ap plane-told (forward-off-globe etrsLaea (latitude (pos 324_000_001)) (pos 0) (sets .0) beyond-pole),
-  opposite-forward etrsLaea (sets .0) (negℤ (pos 612_000_000)) (lit≤ tt) refl,
+  centre-forward etrsLaea etrs-accepted,
+  λ f. ap plane-told (forward-set-refused (wrong f) (latitude (pos 324_000_001)) (pos 0) (numberOf f) (not-none f) (wrong-refused f)),
+  ap plane-told (forward-off-globe etrsLaea (latitude (pos 324_000_001)) (pos 0) etrs-accepted beyond-pole),
+  opposite-forward etrsLaea etrs-accepted (negℤ (pos 612_000_000)) (lit≤ tt) refl,
 )
 
 -- ---- inverse
@@ -63,7 +57,7 @@ off-map : (dN : ℤ) → on-map (constantsOf etrsLaea) (pos 4_567_900_000) dN �
 unfolding on-map
 off-map dN =
     let k = constantsOf etrsLaea in
-    first-fails (within (negℤ (pos 2 *ℤ k .rn)) (pos 2 *ℤ k .rn) dN) (beyond (k .rd) (sound etrsLaea (sets .0) .rd-between))
+    first-fails (within (negℤ (pos 2 *ℤ k .rn)) (pos 2 *ℤ k .rn) dN) (beyond (k .rd) (sound etrsLaea etrs-accepted .rd-between))
 
 not-origin : at-origin (pos 4_567_900_000) (negℤ (pos 321_000_000)) ≡ false
 unfolding at-origin same within
@@ -71,10 +65,10 @@ not-origin = refl
 
 pub inverse-witnesses : InverseWitnesses
 inverse-witnesses = (
-  centre-inverse etrsLaea (sets .0),
-  ap geodetic-told (inverse-set-refused sizeless (pos 432_100_000) (pos 321_000_000) 1 not-none (sets .1)),
-  ap geodetic-told (inverse-off-plane etrsLaea (pos 5_000_000_001) (pos 0) (sets .0) beyond-plane),
+  centre-inverse etrsLaea etrs-accepted,
+  λ f. ap geodetic-told (inverse-set-refused (wrong f) (pos 5_000_000_001) (pos 0) (numberOf f) (not-none f) (wrong-refused f)),
+  ap geodetic-told (inverse-off-plane etrsLaea (pos 5_000_000_001) (pos 0) etrs-accepted beyond-plane),
   ap geodetic-told
-      (inverse-on-plane etrsLaea (pos 5_000_000_000) (pos 0) (sets .0) (on-plane-by (pos 5_000_000_000) (pos 0) (lit≤ tt) (lit≤ tt))
+      (inverse-on-plane etrsLaea (pos 5_000_000_000) (pos 0) etrs-accepted (on-plane-by (pos 5_000_000_000) (pos 0) (lit≤ tt) (lit≤ tt))
       ∙ from-off-map etrsLaea (constantsOf etrsLaea) (pos 4_567_900_000) (negℤ (pos 321_000_000)) not-origin (off-map (negℤ (pos 321_000_000)))),
 )

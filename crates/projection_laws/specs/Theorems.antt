@@ -3,16 +3,17 @@
 use Prim.Native.Nat.{ℕ, _≤_}
 use mathlib.Core.Path.{_≡_}
 use mathlib.Core.Bool.{true}
-use mathlib.Core.List.{List, [], _∷_}
+use mathlib.Core.List.{List, [], _∷_, _++_}
 use lib.IntN.{ℤ, pos, negℤ, natAbs, _+ℤ_, _-ℤ_, _*ℤ_}
 use lib.Signed.{_≤ℤ_, _<ℤ_}
 use Rattle.units.specs.Units.{right-angle, half-turn}
-use Rattle.units.specs.Refusals.{bad-set, out-of-limits, too-far, OneOf}
+use Rattle.units.specs.Refusals.{out-of-limits, too-far, OneOf}
 use Rattle.units.specs.Answers.{accepted, refused}
 use Rattle.latitudes.specs.declared.Geodetic.{Geodetic}
 use Rattle.latitudes.specs.Latitude.{latitude, beta}
 use Rattle.parameters.specs.declared.Parameters.{Parameters}
-use Rattle.parameters.specs.ParameterSet.{polar, accepted-e2, setRefusal, setOf, etrsLaea}
+use Rattle.parameters.specs.ParameterSet.{polar, accepted-e2, setRefusal, etrsLaea}
+use Rattle.parameters.specs.Fields.{Field, numberOf, set-refusals, wrong}
 use Rattle.constants.specs.Derived.{seriesOf, RD, constantsOf}
 use Rattle.azimuthal_forward.specs.declared.PlaneAnswer.the-variants.{Plane, Refused}
 use Rattle.azimuthal_forward.specs.Answer.{forwardRefusal, forwardOf, plane-told}
@@ -108,7 +109,7 @@ HalfTurnAlike = (p : Parameters) (φ : Geodetic) → forwardOf p φ (negℤ (pos
 
 -- the refusals of a call in whole units; 0 is none
 abbrev pub whole-refusals : List ℕ
-whole-refusals = bad-set ∷ out-of-limits ∷ too-far ∷ []
+whole-refusals = set-refusals ++ (out-of-limits ∷ too-far ∷ [])
 
 abbrev pub ForwardNumbers : Type 0
 ForwardNumbers = (p : Parameters) (φ : Geodetic) (lon : ℤ) → OneOf (0 ∷ whole-refusals) (forwardRefusal p φ lon)
@@ -138,21 +139,17 @@ InverseDecided =
 
 -- ---- witnesses: each refusal and an accepted answer, in each direction, so that no condition is empty
 
--- ETRS-LAEA on an ellipsoid without size: refused
-abbrev pub sizeless : Parameters
-sizeless = setOf (pos 0) (pos 6_694_380) (pos 187_200_000) (pos 36_000_000) (pos 432_100_000) (pos 321_000_000)
-
--- The accepted answers, and forward's 3 and 4, are those of the program's example in document 01.
+-- A set with one field wrong is refused by the number of that field, here before the position is refused 3. The accepted answers, and forward's 3 and 4, are those of the program's example in document 01.
 abbrev pub ForwardWitnesses : Type 0
 ForwardWitnesses =
     (plane-told (forwardOf etrsLaea (latitude (pos 187_200_000)) (pos 36_000_000)) ≡ accepted (pos 432_100_000) (pos 321_000_000))
-    × (plane-told (forwardOf sizeless (latitude (pos 187_200_000)) (pos 36_000_000)) ≡ refused bad-set)
+    × ((f : Field) → plane-told (forwardOf (wrong f) (latitude (pos 324_000_001)) (pos 0)) ≡ refused (numberOf f))
     × (plane-told (forwardOf etrsLaea (latitude (pos 324_000_001)) (pos 0)) ≡ refused out-of-limits)
     × (plane-told (forwardOf etrsLaea (latitude (negℤ (pos 187_200_000))) (negℤ (pos 612_000_000))) ≡ refused too-far)
 
 abbrev pub InverseWitnesses : Type 0
 InverseWitnesses =
     (geodetic-told (inverseOf etrsLaea (pos 432_100_000) (pos 321_000_000)) ≡ accepted (pos 187_200_000) (pos 36_000_000))
-    × (geodetic-told (inverseOf sizeless (pos 432_100_000) (pos 321_000_000)) ≡ refused bad-set)
+    × ((f : Field) → geodetic-told (inverseOf (wrong f) (pos 5_000_000_001) (pos 0)) ≡ refused (numberOf f))
     × (geodetic-told (inverseOf etrsLaea (pos 5_000_000_001) (pos 0)) ≡ refused out-of-limits)
     × (geodetic-told (inverseOf etrsLaea (pos 5_000_000_000) (pos 0)) ≡ refused too-far)

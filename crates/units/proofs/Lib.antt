@@ -1,3 +1,4 @@
 pub mod Spans
 pub mod Chains
 pub mod AnswerLaws
+pub mod FirstFailed

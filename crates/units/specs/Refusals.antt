@@ -1,13 +1,10 @@
--- Document 01, "Refusal numbers": the numbers by name, and chains of tests of which the first that fails gives its number.
+-- Document 01, "Refusal numbers", with those of request a) of document 02: the numbers by name, and chains of tests of which the first that fails
+-- gives its number.
 use Prim.Native.Nat.{ℕ, zero, suc}
 use mathlib.Core.Bool.{Bool, true, false}
 use mathlib.Core.List.{List, [], _∷_}
 use mathlib.Core.Logic.{_⊎_}
 use mathlib.Core.Path.{_≡_}
-
--- "parameter set outside its table"
-abbrev pub bad-set : ℕ
-bad-set = 1
 
 -- "a coordinate is NaN or infinite"
 abbrev pub not-finite : ℕ
@@ -28,6 +25,25 @@ unequal-lists = 5
 -- "lists longer than 4,096"
 abbrev pub long-lists : ℕ
 long-lists = 6
+
+-- "11 a, 12 e2, 13 φ0, 14 lon0, 15 FE, 16 FN": a field of the parameter set is outside its table
+abbrev pub bad-a : ℕ
+bad-a = 11
+
+abbrev pub bad-e2 : ℕ
+bad-e2 = 12
+
+abbrev pub bad-lat0 : ℕ
+bad-lat0 = 13
+
+abbrev pub bad-lon0 : ℕ
+bad-lon0 = 14
+
+abbrev pub bad-false-easting : ℕ
+bad-false-easting = 15
+
+abbrev pub bad-false-northing : ℕ
+bad-false-northing = 16
 
 -- where the test fails, the refusal number; else what the next tests say
 abbrev pub unless : Bool → ℕ → ℕ → ℕ

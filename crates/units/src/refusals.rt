@@ -1,9 +1,6 @@
-// The refusal numbers of document 01; 0 is none.
+// The refusal numbers; 0 is none.
 ghost use mathlib.Core.Path.{_≡_};
 ghost use Rattle.units.specs.Refusals.{unless};
-
-// The parameter set is outside its table.
-pub const BAD_SET: u8 = 1;
 
 // A coordinate is NaN or infinite.
 pub const NOT_FINITE: u8 = 2;
@@ -19,6 +16,19 @@ pub const UNEQUAL_LISTS: u8 = 5;
 
 // The lists are longer than 4,096.
 pub const LONG_LISTS: u8 = 6;
+
+// A field of the parameter set is outside its table; the fields in the table's order.
+pub const BAD_A: u8 = 11;
+
+pub const BAD_E2: u8 = 12;
+
+pub const BAD_LAT0: u8 = 13;
+
+pub const BAD_LON0: u8 = 14;
+
+pub const BAD_FALSE_EASTING: u8 = 15;
+
+pub const BAD_FALSE_NORTHING: u8 = 16;
 
 // A link in a chain of tests: where the test fails its number, else what the next tests say.
 pub fn unless(passed: bool, number: u8, next: u8) -> u8

@@ -1,5 +1,6 @@
 // Runs the papers' examples in whole units and prints what the library answers; the gate holds it to `stdout`.
 mod bad_input;
+mod bad_sets;
 mod cell_rows;
 mod centres;
 mod examples;
@@ -35,6 +36,9 @@ fn main() {
     nearness::inverse_on_sphere();
     nearness::oblique();
     nearness::polar();
+    bad_sets::extremes();
+    bad_sets::limits();
+    bad_sets::pairs();
     bad_input::extremes();
     bad_input::edges();
     cell_rows::sides();

@@ -85,7 +85,7 @@ pub(crate) const POLAR_G_LEAST: usize = 38;
 
 pub(crate) const POLAR_G_TOO_FAR: usize = 39;
 
-// The fields of a set, and what stands before rows with one of them bad.
+// The fields of a set, and what stands before the rows of a set with its fields named above them.
 pub(crate) const A: usize = 40;
 
 pub(crate) const E2: usize = 41;
@@ -98,7 +98,7 @@ pub(crate) const FALSE_EASTING: usize = 44;
 
 pub(crate) const FALSE_NORTHING: usize = 45;
 
-pub(crate) const BAD_SET: usize = 46;
+pub(crate) const OF_A_SET: usize = 46;
 
 pub(crate) const ETRS_LAEA: usize = 47;
 

@@ -2,7 +2,6 @@
 
 use crate::steps::{Constants, Set, DEGREE};
 
-pub const SET: u8 = 1;
 pub const NOT_FINITE: u8 = 2;
 pub const RANGE: u8 = 3;
 pub const FAR: u8 = 4;
@@ -80,17 +79,13 @@ fn inverse_point(constants: &Constants, pair: (f64, f64)) -> Answer<f64> {
 
 /// A call for one point in doubles.
 pub fn single(direction: Direction, set: &Set, pair: (f64, f64)) -> Answer<f64> {
-    if !set.accepted() {
-        return Err(SET);
-    }
+    set.refusal().map_or(Ok(()), Err)?;
     direction.point(&Constants::of(set), pair)
 }
 
 /// A call for one point in mas and cm.
 pub fn whole(direction: Direction, set: &Set, pair: (i64, i64)) -> Answer<i64> {
-    if !set.accepted() {
-        return Err(SET);
-    }
+    set.refusal().map_or(Ok(()), Err)?;
     let constants = Constants::of(set);
     let wide = (i128::from(pair.0), i128::from(pair.1));
     let answer = match direction {
@@ -152,9 +147,7 @@ pub fn list(direction: Direction, set: &Set, lists: &mut Lists) -> Result<usize,
     if length > 4096 {
         return Err(LONG);
     }
-    if !set.accepted() {
-        return Err(SET);
-    }
+    set.refusal().map_or(Ok(()), Err)?;
     let constants = Constants::of(set);
     for at in 0..length {
         let answer = direction.point(&constants, (lists.inputs[0][at], lists.inputs[1][at]));

@@ -10,7 +10,7 @@ pub struct Report {
     pub inputs: u64,
     pub lowest: u64,
     pub below: u64,
-    answers: [u64; 7],
+    answers: [u64; 256],
 }
 
 impl Report {
@@ -24,7 +24,7 @@ impl Report {
             inputs: 0,
             lowest: 0,
             below: 0,
-            answers: [0; 7],
+            answers: [0; 256],
         }
     }
 
@@ -41,7 +41,7 @@ impl Report {
 
     /// Prints the counts; every number in `expected` must have been given, and no other.
     pub fn end(self, expected: &[u8]) {
-        let answers: Vec<String> = (1..=6)
+        let answers: Vec<String> = (1..=255)
             .filter(|&n| self.answers[n] > 0)
             .map(|n| format!("{n}: {}", self.answers[n]))
             .collect();
@@ -61,7 +61,7 @@ impl Report {
                 self.lowest, self.below
             );
         }
-        for number in 0..7u8 {
+        for number in 0..=u8::MAX {
             let given = self.answers[usize::from(number)] > 0;
             assert_eq!(
                 given,

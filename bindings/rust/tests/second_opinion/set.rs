@@ -1,28 +1,44 @@
 //! The call that tests a set alone, the type that carries one, and the versions.
 
-use crate::calls::{self, Direction};
+use crate::calls::Direction;
 use crate::random::{inputs, seed, Random};
 use crate::raw;
 use crate::report::Report;
-use crate::sets::{self, EUROPE};
+use crate::sets::{self, EUROPE, FIELDS, NUMBERS};
 use crate::steps::Set;
 use laea::Refusal;
 
-/// The refusal's number of a set, raw and through the safe wrapper; and a call with that set and a
-/// position that no set refuses is refused by it too.
+/// Calls in `check`: the set's own, raw and wrapped, and three in each direction.
+const CALLS: u64 = 8;
+
+/// The refusal's number of a set, raw and through the safe wrapper. Every call with that set is
+/// refused by it, whatever else is wrong with the call's position; and accepted at the centre.
 fn check(set: &Set) -> u8 {
-    let expected = if set.accepted() { 0 } else { calls::SET };
+    let expected = set.refusal().unwrap_or(0);
     assert_eq!(raw::set_refusal(set), expected, "{set:?}");
     let wrapped = raw::lent(set).refusal();
     assert_eq!(wrapped.map_or(0, Refusal::number), expected, "{set:?}");
-    let mut places = [7; 4];
-    let origin = if set.accepted() {
-        (set.fe, set.fn_)
-    } else {
-        (0, 0)
-    };
-    let given = raw::whole(Direction::Inverse, set, origin, &mut places);
-    assert_eq!(given, expected, "{set:?}");
+    for direction in [Direction::Forward, Direction::Inverse] {
+        let (whole, floats) = match (set.accepted(), direction) {
+            (false, _) => ((i64::MIN, i64::MAX), (f64::NAN, f64::INFINITY)),
+            (true, Direction::Forward) => {
+                let degrees = |mas: i64| mas as f64 / 3_600_000.0;
+                let centre = (set.lat0, set.lon0);
+                (centre, (degrees(centre.0), degrees(centre.1)))
+            }
+            (true, Direction::Inverse) => {
+                let origin = (set.fe, set.fn_);
+                (origin, (origin.0 as f64 / 100.0, origin.1 as f64 / 100.0))
+            }
+        };
+        let told = || format!("{direction:?} {set:?}");
+        let given = raw::whole(direction, set, whole, &mut [7; 4]);
+        assert_eq!(given, expected, "{}", told());
+        let given = raw::single(direction, set, floats, &mut [7.0; 4]);
+        assert_eq!(given, expected, "{}", told());
+        let given = raw::null_lists(direction, set, &mut [], &mut [7; 3]);
+        assert_eq!(given, expected, "{}", told());
+    }
     expected
 }
 
@@ -39,45 +55,68 @@ fn set_refusal() {
         };
         report.answered(check(&set));
         report.inputs += 1;
-        report.calls += 3;
+        report.calls += CALLS;
     }
-    report.end(&[0, 1]);
+    report.end(&[&NUMBERS[..], &[0]].concat());
 }
 
-/// Each field at each of its limits and one past it, all others accepted.
+/// Europe with these fields at these values.
+fn with<const N: usize>(values: [(usize, i64); N]) -> Set {
+    let mut set = EUROPE;
+    for (field, value) in values {
+        *FIELDS[field](&mut set) = value;
+    }
+    set
+}
+
+/// Each field alone, at each of its limits and one past it.
 #[test]
 fn limits_of_the_set() {
-    let fields: [fn(&mut Set) -> &mut i64; 6] = [
-        |set| &mut set.a,
-        |set| &mut set.e2,
-        |set| &mut set.lat0,
-        |set| &mut set.lon0,
-        |set| &mut set.fe,
-        |set| &mut set.fn_,
-    ];
-    let spans: [&[(i64, i64)]; 6] = [
-        &[(100_000_000, 1_000_000_000)],
-        &[(0, 10_000_000)],
-        &[
-            (-324_000_000, -324_000_000),
-            (-306_000_000, 306_000_000),
-            (324_000_000, 324_000_000),
-        ],
-        &[(-647_999_999, 648_000_000)],
-        &[(-1_000_000_000, 1_000_000_000)],
-        &[(-1_000_000_000, 1_000_000_000)],
-    ];
-    for (field, spans) in fields.into_iter().zip(spans) {
-        let told = |value: i64| {
-            let mut set = EUROPE;
-            *field(&mut set) = value;
-            check(&set)
-        };
-        for (least, most) in spans {
-            assert_eq!((told(*least), told(*most)), (0, 0));
-            assert_eq!((told(least - 1), told(most + 1)), (calls::SET, calls::SET));
+    for (field, number) in NUMBERS.into_iter().enumerate() {
+        for value in sets::limits(field) {
+            assert_eq!(check(&with([(field, value)])), 0);
         }
-        assert_eq!((told(i64::MIN), told(i64::MAX)), (calls::SET, calls::SET));
+        let extremes = [i64::MIN, i64::MAX];
+        for value in sets::past_limits(field).into_iter().chain(extremes) {
+            assert_eq!(check(&with([(field, value)])), number);
+        }
+    }
+}
+
+/// All pairs of two fields, each one past its limits and at them: the first that is past is told.
+#[test]
+fn pairs_of_fields() {
+    let mut pairs = 0;
+    for first in 0..6 {
+        for second in first + 1..6 {
+            for past in sets::past_limits(first) {
+                for other in sets::past_limits(second) {
+                    let set = with([(first, past), (second, other)]);
+                    assert_eq!(check(&set), NUMBERS[first]);
+                }
+                for limit in sets::limits(second) {
+                    let set = with([(first, past), (second, limit)]);
+                    assert_eq!(check(&set), NUMBERS[first]);
+                }
+            }
+            for limit in sets::limits(first) {
+                for past in sets::past_limits(second) {
+                    let set = with([(first, limit), (second, past)]);
+                    assert_eq!(check(&set), NUMBERS[second]);
+                }
+            }
+            pairs += 1;
+        }
+    }
+    assert_eq!(pairs, 15);
+}
+
+/// All six fields past their limits: the first is told.
+#[test]
+fn all_fields() {
+    for at in 0..2 {
+        let values = [0, 1, 2, 3, 4, 5].map(|field| (field, sets::past_limits(field)[at]));
+        assert_eq!(check(&with(values)), 11);
     }
 }
 

@@ -88,59 +88,84 @@ fn latitude(random: &mut Random, any: i64) -> i64 {
     }
 }
 
-/// A set with one field, sometimes more, outside its table.
-pub fn refused(random: &mut Random) -> Set {
-    let mut set = accepted(random);
-    while set.accepted() {
-        let far = random.any_size();
-        match random.below(6) {
-            0 => {
-                set.a = random.pick(&[
-                    99_999_999,
-                    1_000_000_001,
-                    0,
-                    -1,
-                    -637_813_700,
-                    i64::MIN,
-                    i64::MAX,
-                    far,
-                ])
-            }
-            1 => set.e2 = random.pick(&[-1, 10_000_001, i64::MIN, i64::MAX, 1_000_000_000, far]),
-            2 => set.lat0 = random.pick(&OUTSIDE_LATITUDES),
-            3 => {
-                set.lon0 = random.pick(&[
-                    -648_000_000,
-                    -648_000_001,
-                    648_000_001,
-                    i64::MIN,
-                    i64::MAX,
-                    far,
-                ])
-            }
-            4 => set.fe = random.pick(&[-1_000_000_001, 1_000_000_001, i64::MIN, i64::MAX, far]),
-            _ => set.fn_ = random.pick(&[-1_000_000_001, 1_000_000_001, i64::MIN, i64::MAX, far]),
-        }
-        // A field drawn at random may lie within its table; sometimes a second one goes too.
-        if random.percent(15) {
-            set.e2 = i64::MIN;
-        }
-    }
-    set
+/// The refusal numbers of the fields, in the table's order.
+pub const NUMBERS: [u8; 6] = [11, 12, 13, 14, 15, 16];
+
+/// The fields, in the table's order.
+pub const FIELDS: [fn(&mut Set) -> &mut i64; 6] = [
+    |set| &mut set.a,
+    |set| &mut set.e2,
+    |set| &mut set.lat0,
+    |set| &mut set.lon0,
+    |set| &mut set.fe,
+    |set| &mut set.fn_,
+];
+
+/// What each field accepts: the least and the most of each span.
+const SPANS: [&[(i64, i64)]; 6] = [
+    &[(100_000_000, 1_000_000_000)],
+    &[(0, 10_000_000)],
+    &[
+        (-324_000_000, -324_000_000),
+        (-306_000_000, 306_000_000),
+        (324_000_000, 324_000_000),
+    ],
+    &[(-647_999_999, 648_000_000)],
+    &[(-1_000_000_000, 1_000_000_000)],
+    &[(-1_000_000_000, 1_000_000_000)],
+];
+
+/// The limits of a field.
+pub fn limits(field: usize) -> Vec<i64> {
+    let ends = SPANS[field].iter().map(|&(least, most)| [least, most]);
+    ends.flatten().collect()
 }
 
-const OUTSIDE_LATITUDES: [i64; 10] = [
-    306_000_001,
-    -306_000_001,
-    323_999_999,
-    -323_999_999,
-    324_000_001,
-    -324_000_001,
-    315_000_000,
-    -315_000_000,
-    i64::MIN,
-    i64::MAX,
-];
+/// One past each limit of a field.
+pub fn past_limits(field: usize) -> Vec<i64> {
+    let ends = SPANS[field]
+        .iter()
+        .map(|&(least, most)| [least - 1, most + 1]);
+    ends.flatten().collect()
+}
+
+/// A value outside the table: one past a limit, an extreme one, the same size with the other sign,
+/// or any.
+fn outside(field: usize, own: i64, random: &mut Random) -> i64 {
+    let accepts = |value| {
+        let mut spans = SPANS[field].iter();
+        spans.any(|&(least, most)| (least..=most).contains(&value))
+    };
+    let past = past_limits(field);
+    loop {
+        let far = random.any_size();
+        let next = random.pick(&past);
+        let extreme = random.pick(&[i64::MIN, i64::MAX, 0, -1, 315_000_000, -315_000_000, -own]);
+        let value = random.pick(&[next, next, extreme, far]);
+        if !accepts(value) {
+            return value;
+        }
+    }
+}
+
+/// A set with one field, two or more outside the table.
+pub fn refused(random: &mut Random) -> Set {
+    let mut set = accepted(random);
+    let (one, two) = (1 << random.below(6), 1 << random.below(6));
+    let any = 1 + random.below(63);
+    let wrong = random.pick(&[one, one, one, one | two, one | two, any]);
+    for (field, of) in FIELDS.into_iter().enumerate() {
+        if wrong >> field & 1 == 1 {
+            let own = *of(&mut set);
+            *of(&mut set) = outside(field, own, random);
+        }
+    }
+    assert_eq!(
+        set.refusal(),
+        Some(NUMBERS[wrong.trailing_zeros() as usize])
+    );
+    set
+}
 
 /// Mostly an accepted set.
 pub fn any(random: &mut Random) -> Set {

@@ -7,7 +7,7 @@ use Prim.Native.Nat.{ℕ}
 use mir.Syntax.{w64}
 use mir.Val.{SFits}
 use mir.Facts.{toZ-ofZ}
-use Rattle.units.specs.Refusals.{bad-set, unless}
+use Rattle.units.specs.Refusals.{bad-a, bad-e2, bad-lat0, bad-lon0, bad-false-easting, bad-false-northing, unless}
 use Rattle.parameters.specs.declared.Parameters.{Parameters}
 use Rattle.parameters.specs.ParameterSet.{accepted-a, accepted-e2, accepted-lat0, accepted-lon0, accepted-false, setRefusal}
 use Rattle.parameters.proofs.Parameters.refusal.Statement.{statement}
@@ -31,9 +31,9 @@ fields c =
       northing-fits = search needs;
     }
 
--- one link: r is what `unless` gave of the test t and the links n
-linked : {r n n′ : ℕ} {t t′ : Bool} → r ≡ unless t bad-set n → t ≡ t′ → n ≡ n′ → r ≡ unless t′ bad-set n′
-linked e f g = e ∙ ap₂ (λ (t : Bool) (n : ℕ). unless t bad-set n) f g
+-- one link: r is what `unless` gave of the test t, its number and the links n
+linked : {r n n′ : ℕ} {t t′ : Bool} (number : ℕ) → r ≡ unless t number n → t ≡ t′ → n ≡ n′ → r ≡ unless t′ number n′
+linked number e f g = e ∙ ap₂ (λ (t : Bool) (n : ℕ). unless t number n) f g
 
 -- where the code stands at each link: the link before, the set, and what is known of its fields
 abbrev at-easting : tie.After-unless2 → tie.After-unless
@@ -56,41 +56,41 @@ known c = fields (c .before .before)
 
 -- the links from each field on, the last field first
 abbrev from-northing : Parameters → ℕ
-from-northing p = unless (accepted-false (p .«false_northing»)) bad-set 0
+from-northing p = unless (accepted-false (p .«false_northing»)) bad-false-northing 0
 
 abbrev from-easting : Parameters → ℕ
-from-easting p = unless (accepted-false (p .«false_easting»)) bad-set (from-northing p)
+from-easting p = unless (accepted-false (p .«false_easting»)) bad-false-easting (from-northing p)
 
 abbrev from-lon0 : Parameters → ℕ
-from-lon0 p = unless (accepted-lon0 (p .lon0)) bad-set (from-easting p)
+from-lon0 p = unless (accepted-lon0 (p .lon0)) bad-lon0 (from-easting p)
 
 abbrev from-lat0 : Parameters → ℕ
-from-lat0 p = unless (accepted-lat0 (p .lat0)) bad-set (from-lon0 p)
+from-lat0 p = unless (accepted-lat0 (p .lat0)) bad-lat0 (from-lon0 p)
 
 abbrev from-e2 : Parameters → ℕ
-from-e2 p = unless (accepted-e2 (p .e2)) bad-set (from-lat0 p)
+from-e2 p = unless (accepted-e2 (p .e2)) bad-e2 (from-lat0 p)
 
 northing-is : (c : tie.After-unless) → c .unless .result ≡ from-northing (set-of c)
-northing-is c = linked (c .unless .ensures) (c .before .is-false .ensures ∙ ap accepted-false (toZ-ofZ (known c .northing-fits))) refl
+northing-is c = linked bad-false-northing (c .unless .ensures) (c .before .is-false .ensures ∙ ap accepted-false (toZ-ofZ (known c .northing-fits))) refl
 
 easting-is : (c : tie.After-unless2) → c .unless2 .result ≡ from-easting (set-of (at-easting c))
 easting-is c =
-    linked (c .unless2 .ensures)
+    linked bad-false-easting (c .unless2 .ensures)
     (c .before .is-false2 .ensures ∙ ap accepted-false (toZ-ofZ (known (at-easting c) .easting-fits)))
     (northing-is (at-easting c))
 
 lon0-is : (c : tie.After-unless3) → c .unless3 .result ≡ from-lon0 (set-of (at-easting (at-lon0 c)))
 lon0-is c =
-    linked (c .unless3 .ensures)
+    linked bad-lon0 (c .unless3 .ensures)
     (c .before .is-lon0 .ensures ∙ ap accepted-lon0 (toZ-ofZ (known (at-easting (at-lon0 c)) .lon0-fits)))
     (easting-is (at-lon0 c))
 
 lat0-is : (c : tie.After-unless4) → c .unless4 .result ≡ from-lat0 (set-of (at-easting (at-lon0 (at-lat0 c))))
-lat0-is c = linked (c .unless4 .ensures) (c .before .is-lat0 .ensures) (lon0-is (at-lat0 c))
+lat0-is c = linked bad-lat0 (c .unless4 .ensures) (c .before .is-lat0 .ensures) (lon0-is (at-lat0 c))
 
 e2-is : (c : tie.After-unless5) → c .unless5 .result ≡ from-e2 (set-of (at-easting (at-lon0 (at-lat0 (at-e2 c)))))
 e2-is c =
-    linked (c .unless5 .ensures)
+    linked bad-e2 (c .unless5 .ensures)
     (c .before .is-e2 .ensures ∙ ap accepted-e2 (toZ-ofZ (known (at-easting (at-lon0 (at-lat0 (at-e2 c)))) .e2-fits)))
     (lat0-is (at-e2 c))
 
@@ -135,7 +135,7 @@ unfolding setRefusal
 returns c =
     let before = c .before .before .before in
     let f = known (at-easting (at-lon0 (at-lat0 (at-e2 before)))) in
-    linked (c .unless6 .ensures)
+    linked bad-a (c .unless6 .ensures)
     (c .before .is-a .ensures ∙ ap accepted-a (toZ-ofZ (f .a-fits)))
     (e2-is before)
 
