@@ -1,4 +1,4 @@
--- What acceptance says of each field of a set, as bounds: a chain of tests that gives no refusal has passed each of them.
+-- What acceptance says of each field of a set, as bounds: a set that is not refused has passed the test of each field.
 -- Assumes nothing.
 use mathlib.Core.Path.{_≡_}
 use mathlib.Core.Bool.{true}
@@ -13,10 +13,12 @@ use Rattle.integers.proofs.Greatest.{both}
 use Rattle.units.specs.Units.{right-angle, half-turn}
 use Rattle.units.specs.Spans.{inside, same}
 use Rattle.units.proofs.Spans.{either, within-size, same-equal, Between, between}
-use Rattle.units.proofs.Chains.{link-passed}
 use Rattle.latitudes.specs.declared.Geodetic.{Geodetic}
 use Rattle.parameters.specs.declared.Parameters.{Parameters}
 use Rattle.parameters.specs.ParameterSet.{accepted-a, accepted-e2, polar, accepted-lat0, accepted-lon0, accepted-false, setRefusal}
+use Rattle.parameters.specs.Fields.{semi-major-axis, eccentricity-squared, longitude-of-origin, latitude-of-origin}
+use Rattle.parameters.specs.Fields.{false-easting, false-northing}
+use Rattle.parameters.proofs.Fields.{set-accepted}
 
 -- φ0 is at most 85° from the Equator, or a pole
 pub oblique-or-polar : (φ0 : Geodetic) → accepted-lat0 φ0 ≡ true → (natAbs (φ0 .0) ≤ 306_000_000) ⊎ (polar φ0 ≡ true)
@@ -58,22 +60,17 @@ pub record Accepted (p : Parameters) : Type 0 where
   pub northing-size : natAbs (p .«false_northing») ≤ 1_000_000_000
 
 pub accepted-fields : (p : Parameters) → setRefusal p ≡ 0 → Accepted p
-unfolding setRefusal accepted-a accepted-e2 accepted-lon0 accepted-false
+unfolding accepted-a accepted-e2 accepted-lon0 accepted-false
 accepted-fields p h =
-    let a = link-passed (accepted-a (p .a)) _ h in
-    let e2 = link-passed (accepted-e2 (p .e2)) _ (a .1) in
-    let lat0 = link-passed (accepted-lat0 (p .lat0)) _ (e2 .1) in
-    let lon0 = link-passed (accepted-lon0 (p .lon0)) _ (lat0 .1) in
-    let easting = link-passed (accepted-false (p .«false_easting»)) _ (lon0 .1) in
-    let northing = link-passed (accepted-false (p .«false_northing»)) _ (easting .1) in
-    let lon = both (ltZ (negℤ (pos half-turn)) (p .lon0)) (leZ (p .lon0) (pos half-turn)) (lon0 .0) in
+    let passed = set-accepted p .0 h in
+    let lon = both (ltZ (negℤ (pos half-turn)) (p .lon0)) (leZ (p .lon0) (pos half-turn)) (passed longitude-of-origin) in
     let above = ltZ-true (negℤ (pos half-turn)) (p .lon0) (lon .0) in
     record {
-      a-between = between (p .a) 100_000_000 1_000_000_000 (a .0);
-      e2-between = between (p .e2) 0 10_000_000 (e2 .0);
-      lat0-accepted = lat0 .0;
+      a-between = between (p .a) 100_000_000 1_000_000_000 (passed semi-major-axis);
+      e2-between = between (p .e2) 0 10_000_000 (passed eccentricity-squared);
+      lat0-accepted = passed latitude-of-origin;
       lon0-above = above;
       lon0-size = abs-between (p .lon0) (<ℤ-≤ℤ above) (leZ-true (p .lon0) (pos half-turn) (lon .1));
-      easting-size = within-size 1_000_000_000 (p .«false_easting») (easting .0);
-      northing-size = within-size 1_000_000_000 (p .«false_northing») (northing .0);
+      easting-size = within-size 1_000_000_000 (p .«false_easting») (passed false-easting);
+      northing-size = within-size 1_000_000_000 (p .«false_northing») (passed false-northing);
     }

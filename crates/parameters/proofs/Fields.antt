@@ -3,13 +3,12 @@
 use mathlib.Core.Path.{_≡_, refl}
 use mathlib.Core.Bool.{false}
 use mathlib.Core.List.{List, [], _∷_}
-use mathlib.Core.Logic.{_⊎_, inl, inr}
-use Prim.Native.Nat.{ℕ}
+use mathlib.Core.Logic.{inl, inr}
 use native.Mathlib.Omega.{arith}
-use lib.Dec.{lit≤}
+use Prim.Native.Nat.{ℕ}
+use lib.Dec.{T, lit≤}
 use Rattle.units.specs.Spans.{within, same}
-use Rattle.units.specs.Refusals.{bad-a}
-use Rattle.units.proofs.Chains.{Gives, chain}
+use Rattle.units.proofs.Chains.{Gives, chain, all-among, widened}
 use Rattle.units.proofs.FirstFailed.{Among, Ascending, chained, later-above, first-failed, none-failed}
 use Rattle.parameters.specs.declared.Parameters.{Parameters}
 use Rattle.parameters.specs.ParameterSet.{polar, accepted-a, accepted-e2, accepted-lat0, accepted-lon0, accepted-false, setRefusal, etrsLaea}
@@ -57,6 +56,10 @@ unfolding setRefusal
 set-numbers p =
     let number : Gives (0 ∷ set-refusals) (setRefusal p) = search chain depth 40 in
     number .one
+
+-- in a longer chain, by `search (chain, set-gives p)`
+pub set-gives : (p : Parameters) {numbers : List ℕ} → T (all-among numbers (0 ∷ set-refusals)) → Gives numbers (setRefusal p)
+set-gives p t = widened (0 ∷ set-refusals) (set-numbers p) t
 
 -- ---- witnesses
 

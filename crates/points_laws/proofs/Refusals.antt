@@ -15,6 +15,7 @@ use Rattle.units.specs.Answers.{answered}
 use Rattle.units.proofs.Chains.{Gives, chain, another}
 use Rattle.parameters.specs.declared.Parameters.{Parameters}
 use Rattle.parameters.specs.ParameterSet.{setRefusal}
+use Rattle.parameters.proofs.Fields.{set-gives}
 use Rattle.constants.specs.Derived.{constantsOf}
 use Rattle.azimuthal_forward.specs.Steps.{near-enough}
 use Rattle.azimuthal_forward.specs.Answer.{nearness, forwardFar}
@@ -41,21 +42,21 @@ use Rattle.points_laws.proofs.Listed.{at-each-index}
 -- ---- the numbers of the chains
 
 pub forward-numbers : ForwardNumbers
-unfolding forwardPairRefusal pairRefusal setRefusal forwardFar
+unfolding forwardPairRefusal pairRefusal forwardFar
 forward-numbers p at =
-    let number : Gives (0 ∷ pair-refusals) (forwardPairRefusal p at) = search chain depth 40 in
+    let number : Gives (0 ∷ pair-refusals) (forwardPairRefusal p at) = search (chain, set-gives p) depth 40 in
     number .one
 
 pub inverse-numbers : InverseNumbers
-unfolding inversePairRefusal pairRefusal setRefusal inverseFar farFrom
+unfolding inversePairRefusal pairRefusal inverseFar farFrom
 inverse-numbers p at =
-    let number : Gives (0 ∷ pair-refusals) (inversePairRefusal p at) = search chain depth 40 in
+    let number : Gives (0 ∷ pair-refusals) (inversePairRefusal p at) = search (chain, set-gives p) depth 40 in
     number .one
 
 pub list-numbers : ListNumbers
-unfolding listRefusal lengthRefusal setRefusal
+unfolding listRefusal lengthRefusal
 list-numbers p xs ys first second mark =
-    let number : Gives (0 ∷ list-refusals) (listRefusal p xs ys first second mark) = search chain depth 40 in
+    let number : Gives (0 ∷ list-refusals) (listRefusal p xs ys first second mark) = search (chain, set-gives p) depth 40 in
     number .one
 
 -- with an accepted set, of the rest of the chain

@@ -2,12 +2,9 @@
 -- witnesses, since the floats of whole numbers have the answer of the numbers. Assumes nothing.
 use mathlib.Core.Path.{_≡_, refl, ap, _∙_}
 use mathlib.Core.Bool.{true, false}
-use Prim.Native.Nat.{ℕ}
-use native.Mathlib.Omega.{arith}
 use lib.Dec.{lit≤}
 use lib.IntN.{pos, negℤ}
 use lib.Ieee.{nan, lt, neg}
-use Rattle.units.specs.Spans.{within, same}
 use Rattle.units.specs.declared.answers.Told.{Told}
 use Rattle.floats.specs.Limits.{isFinite, beyond, withinLimit}
 use Rattle.parameters.specs.ParameterSet.{etrsLaea}

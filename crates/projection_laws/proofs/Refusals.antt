@@ -10,7 +10,7 @@ use Rattle.units.specs.declared.answers.Told.{Told}
 use Rattle.units.specs.Answers.{accepted, refused, answered}
 use Rattle.units.proofs.Chains.{Gives, chain, another}
 use Rattle.latitudes.specs.declared.Geodetic.{Geodetic}
-use Rattle.parameters.specs.ParameterSet.{setRefusal}
+use Rattle.parameters.proofs.Fields.{set-gives}
 use Rattle.azimuthal_forward.specs.declared.PlaneAnswer.the-variants.{Plane, Refused}
 use Rattle.azimuthal_forward.specs.Answer.{forwardFar, forwardRefusal, eastingOf, northingOf, forwardOf, forwardTold}
 use Rattle.azimuthal_forward.proofs.AnswerLaws.{forward-tells}
@@ -25,15 +25,15 @@ use Rattle.projection_laws.specs.Theorems.{ForwardDecided, InverseDecide
 -- ---- the numbers of the chains
 
 pub forward-numbers : ForwardNumbers
-unfolding forwardRefusal setRefusal forwardFar
+unfolding forwardRefusal forwardFar
 forward-numbers p φ lon =
-    let number : Gives (0 ∷ whole-refusals) (forwardRefusal p φ lon) = search chain depth 40 in
+    let number : Gives (0 ∷ whole-refusals) (forwardRefusal p φ lon) = search (chain, set-gives p) depth 40 in
     number .one
 
 pub inverse-numbers : InverseNumbers
-unfolding inverseRefusal setRefusal inverseFar farFrom
+unfolding inverseRefusal inverseFar farFrom
 inverse-numbers p E N =
-    let number : Gives (0 ∷ whole-refusals) (inverseRefusal p E N) = search chain depth 40 in
+    let number : Gives (0 ∷ whole-refusals) (inverseRefusal p E N) = search (chain, set-gives p) depth 40 in
     number .one
 
 -- ---- the answers

@@ -3,13 +3,13 @@
 -- links; whether a number is in the list is computed. Use: `let g : Gives numbers n = search chain depth 40 in g .one : OneOf numbers n`.
 -- Assumes nothing.
 use mathlib.Core.Path.{_≡_, refl, sym, subst, _∙_}
-use mathlib.Core.Bool.{Bool, true, false, cond, _||_}
+use mathlib.Core.Bool.{Bool, true, false, cond, _||_, _&&_}
 use mathlib.Core.List.{List, [], _∷_}
 use mathlib.Core.Logic.{_⊎_, inl, inr}
 use Prim.Native.Nat.{ℕ, zero, suc}
 use native.Mathlib.Omega.{arith}
 use lib.Dec.{T, eqb, eqb→eq}
-use mir.Facts.{or-yes}
+use mir.Facts.{and-yes, or-yes}
 use Rattle.units.specs.Refusals.{unless, firstOf, OneOf}
 
 -- ---- 0
@@ -43,6 +43,16 @@ listed (x ∷ xs) n t = at (or-yes (eqb n x) (among xs n) t) (listed xs n)
 
 pub number : {xs : List ℕ} {n : ℕ} → T (among xs n) → Gives xs n
 number {xs} {n} t = record { one = listed xs n t }
+
+-- what is one of these numbers is one of those among which all of these are
+abbrev pub all-among : List ℕ → List ℕ → Bool
+all-among ys [] = true
+all-among ys (x ∷ xs) = among ys x && all-among ys xs
+
+pub widened : (xs : List ℕ) {ys : List ℕ} {n : ℕ} → OneOf xs n → T (all-among ys xs) → Gives ys n
+widened [] i t = absurd i
+widened (x ∷ xs) {ys} (inl e) t = subst (Gives ys) (sym e) (number (and-yes (among ys x) (all-among ys xs) t .0))
+widened (x ∷ xs) {ys} (inr i) t = widened xs i (and-yes (among ys x) (all-among ys xs) t .1)
 
 pub link : (t : Bool) {xs : List ℕ} {m n : ℕ} → Gives xs m → Gives xs n → Gives xs (unless t m n)
 link true g h = h
