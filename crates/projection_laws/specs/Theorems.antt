@@ -139,7 +139,8 @@ InverseDecided =
 
 -- ---- witnesses: each refusal and an accepted answer, in each direction, so that no condition is empty
 
--- A set with one field wrong is refused by the number of that field, here before the position is refused 3. The accepted answers, and forward's 3 and 4, are those of the program's example in document 01.
+-- A set with one field wrong is refused by the number of that field, before its position is refused 3. The accepted answers, and forward's 3 and 4, are
+-- those of the program's example in document 01.
 abbrev pub ForwardWitnesses : Type 0
 ForwardWitnesses =
     (plane-told (forwardOf etrsLaea (latitude (pos 187_200_000)) (pos 36_000_000)) ≡ accepted (pos 432_100_000) (pos 321_000_000))
