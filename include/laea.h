@@ -246,13 +246,13 @@ static inline const char *laea_refusal_text(uint8_t number)
     case LAEA_BAD_E2:
         return "the set's eccentricity squared is not from 0 to 10,000,000 billionths";
     case LAEA_BAD_LAT0:
-        return "the set's lat0 is neither within 306,000,000 mas (85 degrees) nor a pole";
+        return "the set's lat0 is beyond 306,000,000 mas (85 degrees) and not a pole";
     case LAEA_BAD_LON0:
         return "the set's lon0 is not above -648,000,000 and at most 648,000,000 mas";
     case LAEA_BAD_FALSE_EASTING:
-        return "the set's false easting is not within 1,000,000,000 cm";
+        return "the set's false easting is beyond 1,000,000,000 cm";
     case LAEA_BAD_FALSE_NORTHING:
-        return "the set's false northing is not within 1,000,000,000 cm";
+        return "the set's false northing is beyond 1,000,000,000 cm";
     default:
         return "unknown refusal number";
     }

@@ -110,13 +110,13 @@ impl Refusal {
                 "the set's eccentricity squared is not from 0 to 10,000,000 billionths"
             }
             Refusal::BadLat0 => {
-                "the set's lat0 is neither within 306,000,000 mas (85 degrees) nor a pole"
+                "the set's lat0 is beyond 306,000,000 mas (85 degrees) and not a pole"
             }
             Refusal::BadLon0 => {
                 "the set's lon0 is not above -648,000,000 and at most 648,000,000 mas"
             }
-            Refusal::BadFalseEasting => "the set's false easting is not within 1,000,000,000 cm",
-            Refusal::BadFalseNorthing => "the set's false northing is not within 1,000,000,000 cm",
+            Refusal::BadFalseEasting => "the set's false easting is beyond 1,000,000,000 cm",
+            Refusal::BadFalseNorthing => "the set's false northing is beyond 1,000,000,000 cm",
             Refusal::Unknown(_) => "unknown refusal number",
         }
     }
