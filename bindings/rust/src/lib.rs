@@ -64,7 +64,7 @@ pub use set::Set;
 #[doc = include_str!("../README.md")]
 struct Readme;
 
-/// The version of this crate as one number: 200 is 0.2.0.
+/// The version of this crate as one number: 300 is 0.3.0.
 pub const VERSION: u32 = 300;
 
 /// The version of the archive that is linked, as one number like [`VERSION`].

@@ -79,13 +79,17 @@ fn inverse_point(constants: &Constants, pair: (f64, f64)) -> Answer<f64> {
 
 /// A call for one point in doubles.
 pub fn single(direction: Direction, set: &Set, pair: (f64, f64)) -> Answer<f64> {
-    set.refusal().map_or(Ok(()), Err)?;
+    if let Some(number) = set.refusal() {
+        return Err(number);
+    }
     direction.point(&Constants::of(set), pair)
 }
 
 /// A call for one point in mas and cm.
 pub fn whole(direction: Direction, set: &Set, pair: (i64, i64)) -> Answer<i64> {
-    set.refusal().map_or(Ok(()), Err)?;
+    if let Some(number) = set.refusal() {
+        return Err(number);
+    }
     let constants = Constants::of(set);
     let wide = (i128::from(pair.0), i128::from(pair.1));
     let answer = match direction {
@@ -147,7 +151,9 @@ pub fn list(direction: Direction, set: &Set, lists: &mut Lists) -> Result<usize,
     if length > 4096 {
         return Err(LONG);
     }
-    set.refusal().map_or(Ok(()), Err)?;
+    if let Some(number) = set.refusal() {
+        return Err(number);
+    }
     let constants = Constants::of(set);
     for at in 0..length {
         let answer = direction.point(&constants, (lists.inputs[0][at], lists.inputs[1][at]));

@@ -69,40 +69,42 @@ fn with<const N: usize>(values: [(usize, i64); N]) -> Set {
     set
 }
 
-/// Each field alone, at each of its limits and one past it.
+/// Each limit of a field and the value past it, with whether it is past.
+fn edges(field: usize) -> Vec<(i64, bool)> {
+    let at = sets::limits(field).into_iter().map(|value| (value, false));
+    let past = sets::past_limits(field)
+        .into_iter()
+        .map(|value| (value, true));
+    at.chain(past).collect()
+}
+
+/// Each field alone, at each of its limits, one past it and at the ends of its type.
 #[test]
 fn limits_of_the_set() {
     for (field, number) in NUMBERS.into_iter().enumerate() {
-        for value in sets::limits(field) {
-            assert_eq!(check(&with([(field, value)])), 0);
-        }
-        let extremes = [i64::MIN, i64::MAX];
-        for value in sets::past_limits(field).into_iter().chain(extremes) {
-            assert_eq!(check(&with([(field, value)])), number);
+        let ends = [(i64::MIN, true), (i64::MAX, true)];
+        for (value, past) in edges(field).into_iter().chain(ends) {
+            let expected = if past { number } else { 0 };
+            assert_eq!(check(&with([(field, value)])), expected);
         }
     }
 }
 
-/// All pairs of two fields, each one past its limits and at them: the first that is past is told.
+/// All pairs of two fields, each at its limits and one past them: the first that is past is told.
 #[test]
 fn pairs_of_fields() {
     let mut pairs = 0;
-    for first in 0..6 {
-        for second in first + 1..6 {
-            for past in sets::past_limits(first) {
-                for other in sets::past_limits(second) {
-                    let set = with([(first, past), (second, other)]);
-                    assert_eq!(check(&set), NUMBERS[first]);
-                }
-                for limit in sets::limits(second) {
-                    let set = with([(first, past), (second, limit)]);
-                    assert_eq!(check(&set), NUMBERS[first]);
-                }
-            }
-            for limit in sets::limits(first) {
-                for past in sets::past_limits(second) {
-                    let set = with([(first, limit), (second, past)]);
-                    assert_eq!(check(&set), NUMBERS[second]);
+    for (first, number) in NUMBERS.into_iter().enumerate() {
+        for (second, other) in NUMBERS.into_iter().enumerate().skip(first + 1) {
+            for (value, past) in edges(first) {
+                for (next, next_past) in edges(second) {
+                    let expected = match (past, next_past) {
+                        (true, _) => number,
+                        (false, true) => other,
+                        (false, false) => 0,
+                    };
+                    let set = with([(first, value), (second, next)]);
+                    assert_eq!(check(&set), expected);
                 }
             }
             pairs += 1;

@@ -86,30 +86,28 @@ pub struct Set {
 }
 
 impl Set {
-    /// "11 a, 12 e2, 13 φ0, 14 lon0, 15 FE, 16 FN": whether each field, in this order, is within the
-    /// table of accepted values.
-    fn fields_accepted(&self) -> [(u8, bool); 6] {
-        let lat0 = self.lat0;
-        let pole = lat0 == 324_000_000 || lat0 == -324_000_000;
-        [
+    /// The refusal's number of a set outside its table, "the first that applies in this order".
+    pub fn refusal(&self) -> Option<u8> {
+        let fields = [
             (11, (100_000_000..=1_000_000_000).contains(&self.a)),
             (12, (0..=10_000_000).contains(&self.e2)),
-            (13, pole || (-306_000_000..=306_000_000).contains(&lat0)),
+            (
+                13,
+                (-306_000_000..=306_000_000).contains(&self.lat0)
+                    || self.lat0 == 324_000_000
+                    || self.lat0 == -324_000_000,
+            ),
             (14, self.lon0 > -648_000_000 && self.lon0 <= 648_000_000),
             (15, (-1_000_000_000..=1_000_000_000).contains(&self.fe)),
             (16, (-1_000_000_000..=1_000_000_000).contains(&self.fn_)),
-        ]
-    }
-
-    /// "the first that applies in this order"; nothing for an accepted set.
-    pub fn refusal(&self) -> Option<u8> {
-        let fields = self.fields_accepted().into_iter();
+        ];
         fields
-            .filter(|(_, accepted)| !accepted)
+            .into_iter()
+            .find(|&(_, within)| !within)
             .map(|(number, _)| number)
-            .next()
     }
 
+    /// "Accepted, of a set or an answer: without a refusal number."
     pub fn accepted(&self) -> bool {
         self.refusal().is_none()
     }
