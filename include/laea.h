@@ -84,8 +84,8 @@
 extern "C" {
 #endif
 
-/* 10,000 times the major number, 100 times the minor one, and the patch: 0.3.0. */
-#define LAEA_VERSION 300
+/* 10,000 times the major number, 100 times the minor one, and the patch: 0.4.0. */
+#define LAEA_VERSION 400
 
 /* What a call returns, and what a point's mark is. */
 #define LAEA_OK 0
@@ -186,8 +186,10 @@ uint8_t laea_forward_whole(laea_set set, int64_t latitude, int64_t longitude, in
 uint8_t laea_inverse_whole(laea_set set, int64_t easting, int64_t northing, int64_t out[2]);
 
 /*
- * The cell of a position in cm, for a side of 10,000, 100,000 or 1,000,000 cm: out is the easting and
- * the northing divided by the side, the fraction dropped, so that -1 cm lies in cell 0. Refused 3.
+ * The cell of a position in cm, for a side of 10,000, 100,000 or 1,000,000 cm: out is its number east
+ * and its number north, each the greatest whole number whose product with the side is not above the
+ * coordinate, so that -1 cm lies in cell -1. A number is at most 5,000,000,000 divided by the side, on
+ * either side of 0. Refused 3.
  */
 uint8_t laea_cell(int64_t side, int64_t easting, int64_t northing, int64_t out[2]);
 

@@ -60,6 +60,28 @@ static void cell(int64_t side, int64_t easting, int64_t northing)
         printf("refused %d: %s\n", refusal, laea_refusal_text(refusal));
 }
 
+/* Where coordinates lie along an axis, 0 for east and 1 for north; the other coordinate is 0. */
+static void cells_along(int axis, int64_t side)
+{
+    const int64_t limit = INT64_C(5000000000);
+    const int64_t coordinates[] = {-1,     0,         1,          -side,     -side - 1, limit,
+                                   -limit, limit + 1, -limit - 1, INT64_MAX, INT64_MIN};
+
+    printf("side %" PRId64 " cm, %s:", side, axis == 0 ? "east" : "north");
+    for (size_t i = 0; i < sizeof coordinates / sizeof *coordinates; i++) {
+        int64_t at[2] = {0, 0}, out[2];
+
+        at[axis] = coordinates[i];
+        uint8_t refusal = laea_cell(side, at[0], at[1], out);
+
+        if (refusal == LAEA_OK)
+            printf(" %" PRId64 " in %" PRId64, coordinates[i], out[axis]);
+        else
+            printf(" %" PRId64 " refused %d", coordinates[i], refusal);
+        printf(i + 1 < sizeof coordinates / sizeof *coordinates ? "," : "\n");
+    }
+}
+
 /* Sets with a wrong field: each call tells the first. */
 static void wrong_fields(void)
 {
@@ -144,6 +166,10 @@ int main(void)
     other_lists(LAEA_ETRS_LAEA);
     cell(100000, 396279945, 299971885);
     cell(50000, 396279945, 299971885);
+    for (int64_t side = 10000; side <= 1000000; side *= 10) {
+        cells_along(0, side);
+        cells_along(1, side);
+    }
     printf("refusal 7: %s\n", laea_refusal_text(7));
     return 0;
 }

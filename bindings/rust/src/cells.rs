@@ -46,20 +46,24 @@ impl Side {
 /// The numbers of the cell that a position lies in.
 #[derive(Clone, Copy, Debug, PartialEq, Eq, Hash)]
 pub struct Cell {
-    /// The easting divided by the side, the fraction dropped.
+    /// The greatest whole number whose product with the side is not above the easting.
     pub east: i64,
-    /// The northing divided by the side, the fraction dropped.
+    /// The greatest whole number whose product with the side is not above the northing.
     pub north: i64,
 }
 
-/// The cell that a position lies in. The fraction is dropped, so that −1 cm lies in cell 0. A
-/// position beyond ±5,000,000,000 cm is refused with [`Refusal::OutOfLimits`].
+/// The cell that a position lies in: −1 cm lies in cell −1. Its numbers are at most 5,000,000,000 cm
+/// divided by the side, on either side of 0. A position beyond ±5,000,000,000 cm is refused with
+/// [`Refusal::OutOfLimits`].
 ///
 /// ```
 /// use laea::{cell, Cell, Side, WholePlanePosition};
 ///
 /// let place = WholePlanePosition { easting: 396_279_945, northing: 299_971_885 };
 /// assert_eq!(cell(Side::OneKilometre, place), Ok(Cell { east: 3962, north: 2999 }));
+///
+/// let south_west = WholePlanePosition { easting: -1, northing: -100_001 };
+/// assert_eq!(cell(Side::OneKilometre, south_west), Ok(Cell { east: -1, north: -2 }));
 /// ```
 pub fn cell(side: Side, position: WholePlanePosition) -> Result<Cell, Refusal> {
     let mut out = [0; 2];

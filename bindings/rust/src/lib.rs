@@ -64,8 +64,8 @@ pub use set::Set;
 #[doc = include_str!("../README.md")]
 struct Readme;
 
-/// The version of this crate as one number: 300 is 0.3.0.
-pub const VERSION: u32 = 300;
+/// The version of this crate as one number: 400 is 0.4.0.
+pub const VERSION: u32 = 400;
 
 /// The version of the archive that is linked, as one number like [`VERSION`].
 ///

@@ -1,17 +1,18 @@
 -- What is known of an accepted side. The code compares bits: bits say which number is held, so a side is the one whose bits it has and no
--- other; and none of the three sides is 0, 1 or negative, by computation. Assumes nothing.
+-- other. What holds of each of the three, by computation, holds of an accepted side. Assumes nothing.
 use mathlib.Core.Path.{_≡_, sym, ap, _∙_, subst}
-use mathlib.Core.Bool.{true, false}
-use Prim.Native.Nat.{ℕ, zero, suc, _<_}
-use native.Mathlib.Omega.{arith}
-use lib.Dec.{T}
-use lib.IntN.{ℤ, pos, negsuc, natAbs}
+use mathlib.Core.Bool.{true, false, _||_}
+use mathlib.Core.Logic.{_⊎_, inl, inr}
+use Prim.Native.Nat.{ℕ, _≤_, _<_}
+use lib.Dec.{lit≤, lit<}
+use lib.IntN.{ℤ, pos, natAbs}
+use lib.Signed.{_<ℤ_, ltZ-yes}
 use mir.Syntax.{w64}
 use mir.Val.{SFits, toZ, ofZ}
 use mir.Facts.{toZ-ofZ}
 use Rattle.integers.proofs.Greatest.{not-true}
-use Rattle.units.specs.Spans.{within, same}
-use Rattle.units.proofs.Spans.{same-equal}
+use Rattle.units.specs.Spans.{same}
+use Rattle.units.proofs.Spans.{either, same-equal}
 use Rattle.cells.specs.Cells.{accepted-side}
 
 -- a side that is held as the bits of an accepted one is accepted
@@ -22,10 +23,24 @@ side-by-bits fits known e = ap accepted-side (sym (toZ-ofZ fits) ∙ ap (toZ w64
 pub other-bits : (side : ℤ) {k : ℕ} → (ofZ w64 side ≡ k → ⊥) → same side (pos k) ≡ false
 other-bits side {k} differs = not-true (same side (pos k)) (λ e. differs (ap (ofZ w64) (same-equal side (pos k) e)))
 
--- a distance divided by an accepted side is less
-pub side-above-1 : (side : ℤ) → accepted-side side ≡ true → 1 < natAbs side
-unfolding accepted-side same within
-side-above-1 (pos zero) e = absurd (subst T (sym e) tt)
-side-above-1 (pos (suc zero)) e = absurd (subst T (sym e) tt)
-side-above-1 (pos (suc (suc n))) e = omega arith
-side-above-1 (negsuc n) e = absurd (subst T (sym e) tt)
+-- what holds of each of the three holds of an accepted side
+pub of-each-side : (P : ℤ → Type 0) → P (pos 10_000) → P (pos 100_000) → P (pos 1_000_000) → (side : ℤ) → accepted-side side ≡ true → P side
+unfolding accepted-side
+of-each-side P a b c side ok = at (either (same side (pos 10_000) || same side (pos 100_000)) (same side (pos 1_000_000)) ok)
+  where
+    smaller : (same side (pos 10_000) ≡ true) ⊎ (same side (pos 100_000) ≡ true) → P side
+    smaller (inl e) = subst P (sym (same-equal side (pos 10_000) e)) a
+    smaller (inr e) = subst P (sym (same-equal side (pos 100_000) e)) b
+
+    at : ((same side (pos 10_000) || same side (pos 100_000)) ≡ true) ⊎ (same side (pos 1_000_000) ≡ true) → P side
+    at (inl e) = smaller (either (same side (pos 10_000)) (same side (pos 100_000)) e)
+    at (inr e) = subst P (sym (same-equal side (pos 1_000_000) e)) c
+
+pub side-above-1 : (side : ℤ) → accepted-side side ≡ true → pos 1 <ℤ side
+side-above-1 = of-each-side (λ side. pos 1 <ℤ side) (ltZ-yes tt) (ltZ-yes tt) (ltZ-yes tt)
+
+pub side-some : (side : ℤ) → accepted-side side ≡ true → 0 < natAbs side
+side-some = of-each-side (λ side. 0 < natAbs side) (lit< tt) (lit< tt) (lit< tt)
+
+pub side-most : (side : ℤ) → accepted-side side ≡ true → natAbs side ≤ 1_000_000
+side-most = of-each-side (λ side. natAbs side ≤ 1_000_000) (lit≤ tt) (lit≤ tt) (lit≤ tt)

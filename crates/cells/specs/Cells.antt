@@ -1,9 +1,10 @@
--- Document 01, "Cells": the numbers of the cell that a position lies in, or the refusal. Sides and coordinates are in cm.
-use Prim.Native.Nat.{ℕ, _/_, _<_, _≤_}
+-- Document 01, "Cells", with the cell number of document 02, b): the numbers of the cell that a position lies in, or the refusal. Sides and
+-- coordinates are in cm.
+use Prim.Native.Nat.{ℕ, _*_}
 use mathlib.Core.Bool.{Bool, _||_}
 use lib.IntN.{ℤ, pos, natAbs, _-ℤ_, _*ℤ_}
-use lib.Signed.{ltZ}
-use Rattle.integers.specs.Near.{signed}
+use lib.Signed.{leZ}
+use Rattle.integers.specs.Greatest.{greatest}
 use Rattle.units.specs.Spans.{same, on-plane}
 use Rattle.units.specs.Refusals.{out-of-limits, unless}
 use Rattle.units.specs.declared.answers.Told.{Told}
@@ -13,14 +14,18 @@ use Rattle.cells.specs.declared.CellAnswer.the-variants.{Cell, Refused}
 
 -- ---- the number along an axis
 
--- "E and N divided by the side, the fraction dropped": the size is divided and the sign put back, so −1 cm lies in cell 0.
-unfoldable pub cellNumber : ℕ → ℤ → ℤ
-cellNumber side coordinate = signed (ltZ coordinate (pos 0)) (natAbs coordinate / side)
+-- The greatest whole number from −n to n that passes a test. Each use has a test that −n passes.
+unfoldable pub greatest-whole : (ℤ → Bool) → ℕ → ℤ
+greatest-whole test n = pos (greatest (λ k. test (pos k -ℤ pos n)) (2 * n)) -ℤ pos n
 
--- A coordinate lies in the cell of a number where that many sides reach no farther from 0 than it, and less than one side is left to it.
-pub record InCell (side : ℕ) (number coordinate : ℤ) : Type 0 where
-  pub reached : natAbs (number *ℤ pos side) ≤ natAbs coordinate
-  pub remainder : natAbs (coordinate -ℤ number *ℤ pos side) < side
+-- a number "whose product with the side is not above the coordinate"
+unfoldable pub not-above : ℕ → ℤ → ℤ → Bool
+not-above side coordinate number = leZ (number *ℤ pos side) coordinate
+
+-- "The cell number is the greatest whole number whose product with the side is not above the coordinate". No number above |coordinate| has
+-- such a product and −|coordinate| has, so the search ends there; that no whole number at all is a greater one is `NumberGreatest`.
+unfoldable pub cellNumber : ℕ → ℤ → ℤ
+cellNumber side coordinate = greatest-whole (not-above side coordinate) (natAbs coordinate)
 
 -- ---- the answer
 

@@ -1,6 +1,4 @@
-// The cell of a position: document 01, "Cells". Sides and coordinates are in cm.
-use integers::magnitude;
-use integers::signed;
+// The cell of a position: document 01, "Cells", with the cell number of document 02, b). Sides and coordinates are in cm.
 use units::answers::Told;
 use units::answers::accepted;
 use units::answers::refused;
@@ -8,8 +6,9 @@ use units::is_on_plane;
 use units::refusals::OUT_OF_LIMITS;
 ghost use mathlib.Core.Path.{_≡_};
 ghost use mathlib.Core.Bool.{true};
-ghost use Prim.Native.Nat.{_/_, _^_, _<_, _≤_};
 ghost use lib.IntN.{natAbs};
+ghost use Rattle.units.specs.Units.{plane-limit};
+ghost use Rattle.units.specs.Spans.{inside};
 ghost use Rattle.cells.specs.Cells.{accepted-side, cellNumber, cellOf, cell-told, cellTold};
 
 // The cell's numbers along the two axes, or the refusal number alone.
@@ -35,23 +34,18 @@ pub fn is_side(side: i64) -> bool
     }
 }
 
-// How many whole sides a distance holds.
-fn whole_sides(distance: u64, side: u64) -> u64
-    requires { ⌜ (distance ≤ 2 ^ 63) × (0 < side) ⌝ }
-    ensures { λ r. ⌜ r ≡ distance / side ⌝ }
-{
-    distance / side
-}
-
-// The number, along its axis, of the cell that a coordinate lies in.
+// The number, along its axis, of the cell that a coordinate lies in. Division goes towards 0: where that leaves a
+// negative remainder, the quotient times the side is above the coordinate, and the cell is the one before.
 pub fn cell_number(side: i64, coordinate: i64) -> i64
-    requires { ⌜ accepted-side side ≡ true ⌝ }
+    requires { ⌜ (accepted-side side ≡ true) × (inside plane-limit coordinate ≡ true) ⌝ }
     ensures { λ r. ⌜ r ≡ cellNumber (natAbs side) coordinate ⌝ }
 {
-    signed(
-        coordinate < 0,
-        whole_sides(magnitude(coordinate), magnitude(side)),
-    )
+    let whole = coordinate / side;
+    if coordinate % side < 0 {
+        whole - 1
+    } else {
+        whole
+    }
 }
 
 // Any side, any position: the customer's call.

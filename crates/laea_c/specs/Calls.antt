@@ -12,9 +12,9 @@ use Rattle.point_lists.specs.Lists.{listRefusal, listAnswer, ListCall}
 use Rattle.c_answers.specs.Answers.{countAfter}
 use Rattle.laea_c.specs.declared.sets.Set.{Set}
 
--- the version 0.3.0: 10,000 times the major number, 100 times the minor one, and the patch
+-- the version 0.4.0: 10,000 times the major number, 100 times the minor one, and the patch
 abbrev pub version : ℕ
-version = 300
+version = 400
 
 -- the parameter set of these fields
 abbrev pub parametersOf : Set → Parameters

@@ -20,6 +20,8 @@ ghost use Rattle.vectors.specs.Rows.{cellAt, isNear};
 
 const LEAST: i64 = -9_223_372_036_854_775_808;
 
+const MOST: i64 = 9_223_372_036_854_775_807;
+
 // Document 001's false origin.
 const EASTING: i64 = 432_100_000;
 
@@ -85,30 +87,46 @@ pub(crate) fn sides() {
     row(at(0, EASTING, NORTHING), right);
     row(at(-10_000, EASTING, NORTHING), right);
     row(at(LEAST, EASTING, NORTHING), right);
+    row(at(MOST, EASTING, NORTHING), right);
 }
 
-// The fraction is dropped: −1 cm lies in cell 0.
-pub(crate) fn below_zero() {
-    row(at(10_000, -1, 9_999), accepted(0, 0));
-    row(at(10_000, -9_999, -10_000), accepted(0, -1));
-    row(at(100_000, -19_999_999, 19_999_999), accepted(-199, 199));
-    row(at(1_000_000, -1_000_000, -1_999_999), accepted(-1, -1));
+// One side to the south or west of 0, and 1 cm more.
+fn near_zero(side: i64, one_side: i64, one_more: i64) {
+    row(at(side, 1, 0), accepted(0, 0));
+    row(at(side, -1, one_side), accepted(-1, -1));
+    row(at(side, one_side, -1), accepted(-1, -1));
+    row(at(side, 0, one_more), accepted(0, -2));
+    row(at(side, one_more, 1), accepted(-2, 0));
+}
+
+// −1 cm lies in cell −1.
+pub(crate) fn around_zero() {
+    near_zero(10_000, -10_000, -10_001);
+    near_zero(100_000, -100_000, -100_001);
+    near_zero(1_000_000, -1_000_000, -1_000_001);
+    row(at(10_000, -9_999, 9_999), accepted(-1, 0));
+    row(at(100_000, -19_999_999, 19_999_999), accepted(-200, 199));
+}
+
+// A coordinate along either axis.
+fn refused_at(side: i64, coordinate: i64) {
+    let right = refused(OUT_OF_LIMITS);
+    row(at(side, coordinate, 0), right);
+    row(at(side, 0, coordinate), right);
+}
+
+// The limits, whose cells have these numbers, 1 cm past them, and the ends of an i64.
+fn near_limits(side: i64, top: i64, bottom: i64) {
+    row(at(side, PLANE_MOST, PLANE_LEAST), accepted(top, bottom));
+    row(at(side, PLANE_LEAST, PLANE_MOST), accepted(bottom, top));
+    refused_at(side, 5_000_000_001);
+    refused_at(side, -5_000_000_001);
+    refused_at(side, MOST);
+    refused_at(side, LEAST);
 }
 
 pub(crate) fn limits() {
-    row(
-        at(10_000, PLANE_MOST, PLANE_LEAST),
-        accepted(500_000, -500_000),
-    );
-    row(
-        at(1_000_000, PLANE_LEAST, PLANE_MOST),
-        accepted(-5_000, 5_000),
-    );
-    let right = refused(OUT_OF_LIMITS);
-    row(at(10_000, 5_000_000_001, 0), right);
-    row(at(10_000, 0, 5_000_000_001), right);
-    row(at(100_000, -5_000_000_001, 0), right);
-    row(at(100_000, 0, -5_000_000_001), right);
-    row(at(1_000_000, LEAST, 0), right);
-    row(at(1_000_000, 0, LEAST), right);
+    near_limits(10_000, 500_000, -500_000);
+    near_limits(100_000, 50_000, -50_000);
+    near_limits(1_000_000, 5_000, -5_000);
 }

@@ -42,7 +42,7 @@ fn main() {
     bad_input::extremes();
     bad_input::edges();
     cell_rows::sides();
-    cell_rows::below_zero();
+    cell_rows::around_zero();
     cell_rows::limits();
     series_rows::rows(&t);
 }

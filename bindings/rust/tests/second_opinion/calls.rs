@@ -168,15 +168,29 @@ pub fn list(direction: Direction, set: &Set, lists: &mut Lists) -> Result<usize,
     Ok(lists.marks.iter().filter(|&&mark| mark == 0).count())
 }
 
-/// "E and N divided by the side, the fraction dropped."
+/// "Another side, or a position beyond ±5,000,000,000 cm: refused 3."
 pub fn cell(side: i64, easting: i64, northing: i64) -> Answer<i64> {
     if ![10_000, 100_000, 1_000_000].contains(&side) {
         return Err(RANGE);
     }
     test_whole((easting, northing), (5_000_000_000, 5_000_000_000))?;
-    let dropped = |value: i64| {
-        let size = i128::from(value).abs() / i128::from(side);
-        narrow(if value < 0 { -size } else { size })
-    };
-    Ok((dropped(easting), dropped(northing)))
+    Ok((cell_number(side, easting), cell_number(side, northing)))
+}
+
+/// "the greatest whole number whose product with the side is not above the coordinate", searched
+/// for without a division: low · side is never above the coordinate, high · side always is.
+fn cell_number(side: i64, coordinate: i64) -> i64 {
+    let above = |whole: i128| whole * i128::from(side) > i128::from(coordinate);
+    // Beyond every accepted coordinate even for a side of 1.
+    let (mut low, mut high) = (-5_000_000_001, 5_000_000_001);
+    assert!(!above(low) && above(high));
+    while low + 1 < high {
+        let middle = (low + high) >> 1;
+        if above(middle) {
+            high = middle;
+        } else {
+            low = middle;
+        }
+    }
+    narrow(low)
 }

@@ -43,6 +43,15 @@ fn example_of_document_001() {
     assert_eq!(cell(100_000, 396_279_945, 299_971_885), Ok((3962, 2999)));
 }
 
+/// "so −1 cm lies in cell −1"
+#[test]
+fn example_of_request_b() {
+    for side in [10_000, 100_000, 1_000_000] {
+        assert_eq!(cell(side, -1, 0), Ok((-1, 0)));
+        assert_eq!(cell(side, 0, -1), Ok((0, -1)));
+    }
+}
+
 #[test]
 fn example_of_the_program() {
     let forward = |lat, lon| whole(Direction::Forward, &EUROPE, (lat, lon));

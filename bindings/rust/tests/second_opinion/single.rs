@@ -137,6 +137,36 @@ fn check_floats(
     expected
 }
 
+fn check_cell(side: i64, pair: (i64, i64), random: &mut Random) -> Answer<i64> {
+    let expected = calls::cell(side, pair.0, pair.1);
+    let bits = expected.map(|(east, north)| (east as u64, north as u64));
+    let before = filled(random);
+    let mut places = before.map(|bits| bits as i64);
+    let given = raw::cell(side, pair, &mut places);
+    assert_eq!(
+        given,
+        number(&expected),
+        "cell {side} {pair:?}: expected {expected:?}, places {places:?}"
+    );
+    assert_eq!(
+        places.map(|place| place as u64),
+        after(before, &bits),
+        "cell {side} {pair:?}: expected {expected:?}"
+    );
+    let position = WholePlanePosition {
+        easting: pair.0,
+        northing: pair.1,
+    };
+    match Side::from_centimetres(side) {
+        Some(side) => {
+            let wrapped = safe(laea::cell(side, position), |cell| (cell.east, cell.north));
+            assert_eq!(wrapped, expected, "wrapper, cell {side:?} {pair:?}");
+        }
+        None => assert_eq!(expected, Err(calls::RANGE), "no side for {side}"),
+    }
+    expected
+}
+
 /// The nearness that decides refusal 4 of a whole-unit call; nothing where it is not reached.
 fn nearness(direction: Direction, set: &Set, pair: (i64, i64), number: u8) -> Option<i128> {
     if number != 0 && number != calls::FAR {
@@ -227,36 +257,11 @@ fn cell() {
         for place in [&mut pair.0, &mut pair.1] {
             *place = cell_coordinate(&mut random, side);
         }
-        let expected = calls::cell(side, pair.0, pair.1);
-        let before = filled(&mut random);
-        let mut places = before.map(|bits| bits as i64);
-        let given = raw::cell(side, pair, &mut places);
-        let bits = expected.map(|(east, north)| (east as u64, north as u64));
-        assert_eq!(
-            given,
-            number(&expected),
-            "cell {side} {pair:?}: expected {expected:?}, places {places:?}"
-        );
-        assert_eq!(
-            places.map(|place| place as u64),
-            after(before, &bits),
-            "cell {side} {pair:?}: expected {expected:?}"
-        );
-        let position = WholePlanePosition {
-            easting: pair.0,
-            northing: pair.1,
-        };
-        match Side::from_centimetres(side) {
-            Some(side) => {
-                let wrapped = safe(laea::cell(side, position), |cell| (cell.east, cell.north));
-                assert_eq!(wrapped, expected, "wrapper, cell {side:?} {pair:?}");
-                report.calls += 1;
-            }
-            None => assert_eq!(expected, Err(calls::RANGE), "no side for {side}"),
-        }
+        let answer = check_cell(side, pair, &mut random);
         report.inputs += 1;
-        report.calls += 1;
-        report.answered(given);
+        // The wrapper cannot be called with another side.
+        report.calls += 1 + u64::from(Side::from_centimetres(side).is_some());
+        report.answered(number(&answer));
     }
     report.end(&[0, 3]);
 }
@@ -301,7 +306,13 @@ fn cell_coordinate(random: &mut Random, side: i64) -> i64 {
     let far = random.any_size();
     let extreme = random.pick(&[0, 1, -1, i64::MIN, i64::MAX, far]);
     let small = random.between(-1_000_100, 1_000_100);
-    random.pick(&[any, any, any, edge, edge, edge, limit, small, extreme])
+    // The edges about 0 are too rare among all edges.
+    let zero = side
+        .saturating_mul(random.between(-2, 2))
+        .saturating_add(random.between(-1, 1));
+    random.pick(&[
+        any, any, any, edge, edge, edge, zero, zero, limit, small, extreme,
+    ])
 }
 
 /// The limits by name, each with its neighbours, for the named set of Europe.
@@ -342,4 +353,43 @@ fn limits() {
     };
     assert_eq!(at((-0.0, -0.0)), at((0.0, 0.0)));
     assert_eq!(at((60.0, -180.0)), at((60.0, 180.0)));
+}
+
+/// Coordinates about 0 and about the limits, each with its cell number or its refusal. `last` is
+/// the cell that begins at the upper limit.
+fn cell_rows(side: i64, last: i64) -> [(i64, Result<i64, u8>); 16] {
+    let limit = 5_000_000_000;
+    [
+        (i64::MIN, Err(3)),
+        (-limit - 1, Err(3)),
+        (-limit, Ok(-last)),
+        (-limit + 1, Ok(-last)),
+        (-side - 1, Ok(-2)),
+        (-side, Ok(-1)),
+        (-side + 1, Ok(-1)),
+        (-1, Ok(-1)),
+        (0, Ok(0)),
+        (1, Ok(0)),
+        (side - 1, Ok(0)),
+        (side, Ok(1)),
+        (limit - 1, Ok(last - 1)),
+        (limit, Ok(last)),
+        (limit + 1, Err(3)),
+        (i64::MAX, Err(3)),
+    ]
+}
+
+/// Every pair of these coordinates, for each side.
+#[test]
+fn cells_around_zero() {
+    let mut random = Random::new(1);
+    for (side, last) in [(10_000, 500_000), (100_000, 50_000), (1_000_000, 5_000)] {
+        for (easting, east) in cell_rows(side, last) {
+            for (northing, north) in cell_rows(side, last) {
+                let expected = east.and_then(|east| Ok((east, north?)));
+                let answer = check_cell(side, (easting, northing), &mut random);
+                assert_eq!(answer, expected, "cell {side} {easting} {northing}");
+            }
+        }
+    }
 }

@@ -1,69 +1,83 @@
--- `cell_number` meets its contract: the code follows the definition, and the whole sides are fewer than 2^63, since a side is above 1.
+-- `cell_number` meets its contract: the code divides towards 0, and the sign of the remainder says which of two cells the coordinate lies in.
 -- Assumes nothing.
-use borrow.Author.Needs.{needs}
-use mathlib.Core.Path.{_≡_, ap, ap₂, _∙_}
-use Prim.Native.Nat.{ℕ, _/_, _^_, _<_, _≤_}
-use native.Mathlib.Nat.{div-lt-iff-lt-mul}
-use native.Mathlib.Omega.{arith}
-use lib.IntN.{ℤ, pos, natAbs}
-use lib.Signed.{ltZ}
-use mir.Facts.{toZ-ofZ}
-use Rattle.proof_kit.proofs.Range.{returned}
-use Rattle.integers.specs.Near.{signed}
-use Rattle.integers.proofs.Signs.{size-fits}
+use mathlib.Core.Path.{_≡_, sym, _∙_, subst}
+use Prim.Native.Nat.{_<_, _≤_}
+use lib.IntN.{ℤ, pos, natAbs, _-ℤ_}
+use lib.Signed.{_≤ℤ_, _<ℤ_, leZ-yes, quotZ, remZ}
+use Rattle.proof_kit.proofs.Order.{order, ≤ℤ-trans, pos-abs}
+use Rattle.proof_kit.proofs.Range.{code, fits, read, divisor, as-word, as-lt, lt-taken, lt-left}
+use Rattle.units.specs.Units.{plane-limit}
+use Rattle.units.proofs.Spans.{within-size}
 use Rattle.cells.specs.Cells.{cellNumber}
-use Rattle.cells.proofs.Sides.{side-above-1}
+use Rattle.cells.proofs.Sides.{side-above-1, side-most, side-some}
+use Rattle.cells.proofs.NumberLaws.{number-is, whole-cell, lower-cell}
 use Rattle.cells.proofs.cell_number.Statement.{statement}
 use Rattle.cells.proofs.cell_number.Tie as tie
 
-abbrev start : tie.After-magnitude2 → tie.Start
-start c = c .before .before
+coordinate-size : (s : tie.Start) → natAbs (s .args .coordinate) ≤ plane-limit
+coordinate-size s = within-size plane-limit (s .args .coordinate) (s .pre .1)
 
-magnitude-requires : tie.Need-magnitude-requires
-magnitude-requires c κs = search needs
+side-size : (s : tie.Start) → natAbs (s .args .side) ≤ 1_000_000
+side-size s = side-most (s .args .side) (s .pre .0)
 
-distance-is : (c : tie.After-magnitude) → c .magnitude .result ≡ natAbs (c .before .args .coordinate)
-distance-is c = c .magnitude .ensures ∙ ap natAbs (toZ-ofZ (c .before .fits .coordinate))
+positive : (s : tie.Start) → pos 1 ≤ℤ s .args .side
+positive s = omega (order, side-above-1 (s .args .side) (s .pre .0))
 
-magnitude-requires-2 : tie.Need-magnitude-requires-2
-magnitude-requires-2 c κs = search needs
+div-whole : tie.Need-div-whole
+div-whole c =
+    let size = coordinate-size c in
+    let most = side-size c in
+    (rw as-word (divisor (search code depth 40 fits 20000) tt (positive c)), fits (search code depth 40 fits 20000) tt)
 
-side-is : (c : tie.After-magnitude2) → c .magnitude2 .result ≡ natAbs (start c .args .side)
-side-is c = c .magnitude2 .ensures ∙ ap natAbs (toZ-ofZ (start c .fits .side))
+rem-if1 : tie.Need-rem-if1
+rem-if1 c =
+    let size = coordinate-size c in
+    let most = side-size c in
+    (rw as-word (divisor (search code depth 40 fits 20000) tt (positive c)), fits (search code depth 40 fits 20000) tt)
 
-distance-fits : (s : tie.Start) → natAbs (s .args .coordinate) ≤ 2 ^ 63
-distance-fits s = size-fits (s .args .coordinate) (s .fits .coordinate)
+sub-result : tie.Need-sub-result
+sub-result c =
+    let size = coordinate-size (c .before) in
+    let most = side-size (c .before) in
+    fits (search code depth 40 fits 20000) tt
 
-side-above : (s : tie.Start) → 1 < natAbs (s .args .side)
-side-above s = side-above-1 (s .args .side) (s .pre)
+-- the two cells of a quotient
+module _ (s : tie.Start) where
+  abbrev side : ℤ
+  side = s .args .side
 
-whole-sides-requires : tie.Need-whole-sides-requires
-whole-sides-requires c κs = rw (distance-is (c .before), side-is c) (distance-fits (start c), omega (arith, side-above (start c)))
+  abbrev z : ℤ
+  z = s .args .coordinate
 
-sides-are :
-    (c : tie.After-whole-sides) →
-    let a = start (c .before) .args in
-    c .whole-sides .result ≡ natAbs (a .coordinate) / natAbs (a .side)
-sides-are c = c .whole-sides .ensures ∙ ap₂ _/_ (distance-is (c .before .before)) (side-is (c .before))
+  some : 0 < natAbs side
+  some = side-some side (s .pre .0)
 
--- half of the largest distance still fits
-few-sides : (distance side : ℕ) → distance ≤ 2 ^ 63 → 1 < side → distance / side < 2 ^ 63
-few-sides distance side h above = div-lt-iff-lt-mul {k = side} {x = distance} (omega (arith, above)) .1 (omega (arith, h, above))
+  side-is : pos (natAbs side) ≡ side
+  side-is = pos-abs (≤ℤ-trans (leZ-yes tt) (positive s))
 
-signed-requires : tie.Need-signed-requires
-signed-requires c κs =
-    let s = start (c .before) in
-    rw (sides-are c) (few-sides _ _ (distance-fits s) (side-above s))
+  lower : remZ z side <ℤ pos 0 → quotZ z side -ℤ pos 1 ≡ cellNumber (natAbs side) z
+  lower =
+      subst (λ (d : ℤ). remZ z d <ℤ pos 0 → quotZ z d -ℤ pos 1 ≡ cellNumber (natAbs side) z) side-is
+      (λ h. sym (number-is (natAbs side) some _ z (lower-cell (natAbs side) some z h)))
+
+  whole : pos 0 ≤ℤ remZ z side → quotZ z side ≡ cellNumber (natAbs side) z
+  whole =
+      subst (λ (d : ℤ). pos 0 ≤ℤ remZ z d → quotZ z d ≡ cellNumber (natAbs side) z) side-is
+      (λ h. sym (number-is (natAbs side) some _ z (whole-cell (natAbs side) some z h)))
 
 returns : tie.Need-returns
-unfolding cellNumber
 returns c =
-    let coordinate-is = toZ-ofZ (start (c .before .before) .fits .coordinate) in
-    returned (c .signed .ok)
-    ∙ c .signed .ensures
-    ∙ ap₂ (λ (z : ℤ) (n : ℕ). signed (ltZ z (pos 0)) n) coordinate-is (sides-are (c .before))
+    let size = coordinate-size (c .before) in
+    let most = side-size (c .before) in
+    let below = lt-taken (rw as-lt at (c .if1 .taken)) (search code depth 40 fits 20000) (search code depth 40 fits 20000) tt in
+    read (search code depth 40 fits 20000) tt ∙ lower (c .before) below
+
+returns-2 : tie.Need-returns-2
+returns-2 c =
+    let size = coordinate-size (c .before) in
+    let most = side-size (c .before) in
+    let above = lt-left (rw as-lt at (c .if1 .left)) (search code depth 40 fits 20000) (search code depth 40 fits 20000) tt in
+    read (search code depth 40 fits 20000) tt ∙ whole (c .before) above
 
 pub cell-number-spec : {M : Type 1} → statement M
-cell-number-spec =
-    tie.close
-    (tie.spec magnitude-requires magnitude-requires-2 whole-sides-requires signed-requires returns)
+cell-number-spec = tie.close (tie.spec div-whole rem-if1 sub-result returns returns-2)
