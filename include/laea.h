@@ -188,8 +188,8 @@ uint8_t laea_inverse_whole(laea_set set, int64_t easting, int64_t northing, int6
 /*
  * The cell of a position in cm, for a side of 10,000, 100,000 or 1,000,000 cm: out is its number east
  * and its number north, each the greatest whole number whose product with the side is not above the
- * coordinate, so that -1 cm lies in cell -1. A number is at most 5,000,000,000 divided by the side, on
- * either side of 0. Refused 3.
+ * coordinate, so that -1 cm lies in cell -1. The numbers are from -n to n, where n is 5,000,000,000
+ * divided by the side. Refused 3.
  */
 uint8_t laea_cell(int64_t side, int64_t easting, int64_t northing, int64_t out[2]);
 

@@ -52,8 +52,8 @@ pub struct Cell {
     pub north: i64,
 }
 
-/// The cell that a position lies in: −1 cm lies in cell −1. Its numbers are at most 5,000,000,000 cm
-/// divided by the side, on either side of 0. A position beyond ±5,000,000,000 cm is refused with
+/// The cell that a position lies in: −1 cm lies in cell −1. Its numbers are from −n to n, where n is
+/// 5,000,000,000 cm divided by the side. A position beyond ±5,000,000,000 cm is refused with
 /// [`Refusal::OutOfLimits`].
 ///
 /// ```

@@ -14,7 +14,7 @@ use Rattle.cells.specs.declared.CellAnswer.the-variants.{Cell, Refused}
 use Rattle.cells.specs.Cells.{accepted-side, cellNumber, cellRefusal, cell-told, cellOf, cellTold}
 use Rattle.cells.specs.Theorems.{InCell, AnswerHolds, CellAnswered, CellNumbers}
 use Rattle.cells.proofs.Sides.{side-some}
-use Rattle.cells.proofs.NumberLaws.{in-cell, number-is}
+use Rattle.cells.proofs.NumberLaws.{number-cell, number-is}
 
 module _ (side E N : ℤ) where
   pub cell-tells : cell-told (cellOf side E N) ≡ cellTold side E N
@@ -67,8 +67,8 @@ unfolding cellOf cellRefusal
 answer-holds side E N east north a =
     let given = numbers-answered (cellNumber (natAbs side) E) (cellNumber (natAbs side) N) (accepted-side side) (on-plane E N) a in
     let some = side-some side (given .0) in (
-      subst (λ (k : ℤ). InCell (natAbs side) k E) (given .1) (in-cell (natAbs side) some E),
-      subst (λ (k : ℤ). InCell (natAbs side) k N) (given .2) (in-cell (natAbs side) some N),
+      subst (λ (k : ℤ). InCell (natAbs side) k E) (given .1) (number-cell (natAbs side) some E),
+      subst (λ (k : ℤ). InCell (natAbs side) k N) (given .2) (number-cell (natAbs side) some N),
     )
 
 pub cell-answered : CellAnswered

@@ -106,7 +106,7 @@ module _ (side : ℕ) (some : 0 < side) where
   borrowed : (q r : ℤ) → (q -ℤ pos 1) *ℤ pos side +ℤ (r +ℤ pos side) ≡ q *ℤ pos side +ℤ r
   borrowed q r = ring (q ∷ r ∷ pos side ∷ []) (search quote depth 40 fits 20000) tt
 
-  remainder-small : (z : ℤ) → natAbs (remZ z (pos side)) < side
+  pub remainder-small : (z : ℤ) → natAbs (remZ z (pos side)) < side
   remainder-small z = rw (abs-rem z (pos side)) (mod-lt (natAbs z) some)
 
   pub whole-cell : (z : ℤ) → pos 0 ≤ℤ remZ z (pos side) → InCell side (quotZ z (pos side)) z
@@ -151,8 +151,8 @@ module _ (side : ℕ) (some : 0 < side) where
 
 -- ---- what is stated
 
-pub in-cell : NumberCell
-in-cell side h z =
+pub number-cell : NumberCell
+number-cell side h z =
     let there = some-cell side h z in
     subst (λ (k : ℤ). InCell side k z) (sym (number-is side h (there .0) z (there .1))) (there .1)
 
@@ -161,17 +161,17 @@ one-cell side h z = (some-cell side h z, λ k j i l. sym (number-is side h k z i
 
 pub number-greatest : NumberGreatest
 number-greatest side h z =
-    let i = in-cell side h z in
-    record { not-above = i .from-first; none-greater = λ j l. no-later side h j (cellNumber side z) l (i .before-next) }
+    let i = number-cell side h z in
+    record { product-not-above = i .from-first; none-greater = λ j l. no-later side h j (cellNumber side z) l (i .before-next) }
 
 pub number-unique : NumberUnique
 number-unique side h z k g =
     let n = number-greatest side h z in
-    ≤ℤ-antisym (n .none-greater k (g .not-above)) (g .none-greater (cellNumber side z) (n .not-above))
+    ≤ℤ-antisym (n .none-greater k (g .product-not-above)) (g .none-greater (cellNumber side z) (n .product-not-above))
 
 pub cells-touch : CellsTouch
 cells-touch side h k = (
   number-is side h k (k *ℤ pos side) (first-in side h k),
-  λ z e. subst (λ (j : ℤ). (j *ℤ pos side) ≤ℤ z) e (in-cell side h z .from-first),
+  λ z e. subst (λ (j : ℤ). (j *ℤ pos side) ≤ℤ z) e (number-cell side h z .from-first),
   number-is side h (k -ℤ pos 1) (k *ℤ pos side -ℤ pos 1) (last-before side h k),
 )

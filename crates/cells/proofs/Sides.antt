@@ -1,12 +1,11 @@
 -- What is known of an accepted side. The code compares bits: bits say which number is held, so a side is the one whose bits it has and no
 -- other. What holds of each of the three, by computation, holds of an accepted side. Assumes nothing.
-use mathlib.Core.Path.{_≡_, sym, ap, _∙_, subst}
+use mathlib.Core.Path.{_≡_, refl, sym, ap, _∙_, subst}
 use mathlib.Core.Bool.{true, false, _||_}
 use mathlib.Core.Logic.{_⊎_, inl, inr}
 use Prim.Native.Nat.{ℕ, _≤_, _<_}
 use lib.Dec.{lit≤, lit<}
 use lib.IntN.{ℤ, pos, natAbs}
-use lib.Signed.{_<ℤ_, ltZ-yes}
 use mir.Syntax.{w64}
 use mir.Val.{SFits, toZ, ofZ}
 use mir.Facts.{toZ-ofZ}
@@ -36,11 +35,14 @@ of-each-side P a b c side ok = at (either (same side (pos 10_000) || same side (
     at (inl e) = smaller (either (same side (pos 10_000)) (same side (pos 100_000)) e)
     at (inr e) = subst P (sym (same-equal side (pos 1_000_000) e)) c
 
-pub side-above-1 : (side : ℤ) → accepted-side side ≡ true → pos 1 <ℤ side
-side-above-1 = of-each-side (λ side. pos 1 <ℤ side) (ltZ-yes tt) (ltZ-yes tt) (ltZ-yes tt)
+pub side-natural : (side : ℤ) → accepted-side side ≡ true → pos (natAbs side) ≡ side
+side-natural = of-each-side (λ side. pos (natAbs side) ≡ side) refl refl refl
 
 pub side-some : (side : ℤ) → accepted-side side ≡ true → 0 < natAbs side
 side-some = of-each-side (λ side. 0 < natAbs side) (lit< tt) (lit< tt) (lit< tt)
+
+pub side-above-1 : (side : ℤ) → accepted-side side ≡ true → 1 < natAbs side
+side-above-1 = of-each-side (λ side. 1 < natAbs side) (lit< tt) (lit< tt) (lit< tt)
 
 pub side-most : (side : ℤ) → accepted-side side ≡ true → natAbs side ≤ 1_000_000
 side-most = of-each-side (λ side. natAbs side ≤ 1_000_000) (lit≤ tt) (lit≤ tt) (lit≤ tt)

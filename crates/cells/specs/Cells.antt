@@ -14,7 +14,7 @@ use Rattle.cells.specs.declared.CellAnswer.the-variants.{Cell, Refused}
 
 -- ---- the number along an axis
 
--- The greatest whole number from −n to n that passes a test. Each use has a test that −n passes.
+-- The greatest whole number from −n to n that passes a test, where −n passes.
 unfoldable pub greatest-whole : (ℤ → Bool) → ℕ → ℤ
 greatest-whole test n = pos (greatest (λ k. test (pos k -ℤ pos n)) (2 * n)) -ℤ pos n
 
@@ -22,8 +22,8 @@ greatest-whole test n = pos (greatest (λ k. test (pos k -ℤ pos n)) (2 * n)) -
 unfoldable pub not-above : ℕ → ℤ → ℤ → Bool
 not-above side coordinate number = leZ (number *ℤ pos side) coordinate
 
--- "The cell number is the greatest whole number whose product with the side is not above the coordinate". No number above |coordinate| has
--- such a product and −|coordinate| has, so the search ends there; that no whole number at all is a greater one is `NumberGreatest`.
+-- "The cell number is the greatest whole number whose product with the side is not above the coordinate". For a side above 0, −|coordinate| has
+-- such a product and no number above |coordinate| has, so the search goes no farther: of all whole numbers it is the greatest (`NumberGreatest`).
 unfoldable pub cellNumber : ℕ → ℤ → ℤ
 cellNumber side coordinate = greatest-whole (not-above side coordinate) (natAbs coordinate)
 

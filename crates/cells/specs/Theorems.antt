@@ -15,7 +15,7 @@ use Rattle.cells.specs.Cells.{accepted-side, cellNumber, cellOf}
 
 -- "the greatest whole number whose product with the side is not above the coordinate", of all whole numbers
 pub record IsGreatest (side : ℕ) (coordinate number : ℤ) : Type 0 where
-  pub not-above : (number *ℤ pos side) ≤ℤ coordinate
+  pub product-not-above : (number *ℤ pos side) ≤ℤ coordinate
   pub none-greater : (other : ℤ) → (other *ℤ pos side) ≤ℤ coordinate → other ≤ℤ number
 
 abbrev pub NumberGreatest : Type 0

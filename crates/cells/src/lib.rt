@@ -7,8 +7,6 @@ use units::refusals::OUT_OF_LIMITS;
 ghost use mathlib.Core.Path.{_≡_};
 ghost use mathlib.Core.Bool.{true};
 ghost use lib.IntN.{natAbs};
-ghost use Rattle.units.specs.Units.{plane-limit};
-ghost use Rattle.units.specs.Spans.{inside};
 ghost use Rattle.cells.specs.Cells.{accepted-side, cellNumber, cellOf, cell-told, cellTold};
 
 // The cell's numbers along the two axes, or the refusal number alone.
@@ -37,7 +35,7 @@ pub fn is_side(side: i64) -> bool
 // The number, along its axis, of the cell that a coordinate lies in. Division goes towards 0: where that leaves a
 // negative remainder, the quotient times the side is above the coordinate, and the cell is the one before.
 pub fn cell_number(side: i64, coordinate: i64) -> i64
-    requires { ⌜ (accepted-side side ≡ true) × (inside plane-limit coordinate ≡ true) ⌝ }
+    requires { ⌜ accepted-side side ≡ true ⌝ }
     ensures { λ r. ⌜ r ≡ cellNumber (natAbs side) coordinate ⌝ }
 {
     let whole = coordinate / side;

@@ -8,12 +8,10 @@ use Prim.Native.Nat.{_<_, _^_}
 use lib.IntN.{ℤ, natAbs}
 use lib.Signed.{mag}
 use mir.Syntax.{w64}
-use mir.Val.{SFits, toZ, ofZ}
+use mir.Val.{toZ, ofZ}
 use mir.Facts.{toZ-ofZ}
 use Rattle.proof_kit.proofs.Range.{returned}
-use Rattle.integers.proofs.Greatest.{both}
-use Rattle.units.specs.Units.{plane-limit}
-use Rattle.units.specs.Spans.{inside, on-plane}
+use Rattle.units.specs.Spans.{on-plane}
 use Rattle.units.proofs.AnswerLaws.{and-told}
 use Rattle.cells.specs.declared.CellAnswer.{CellAnswer}
 use Rattle.cells.specs.declared.CellAnswer.the-variants.{Cell}
@@ -68,28 +66,15 @@ returns-2 c =
     let fails = sym (plane-is (c .before)) ∙ not-true (c .before .is-on-plane .result) (c .if2 .taken) in
     promised _ _ _ (position-refused _ _ _ (side-ok (c .before .before)) fails)
 
--- what is passed on: the side, and a coordinate within the limits
-plane-ok : (c : tie.Else2) → let a = start (side-left c) .args in on-plane (a .easting) (a .northing) ≡ true
-plane-ok c = sym (plane-is (c .before)) ∙ not-false (c .before .is-on-plane .result) (c .if2 .left)
-
-number-asks : (c : tie.Else2) {z : ℤ} → SFits w64 z → inside plane-limit z ≡ true →
-    (accepted-side (back (start (side-left c) .args .side)) ≡ true) × (inside plane-limit (back z) ≡ true)
-number-asks c fits within-limits =
-    let side-fits = start (side-left c) .fits .side in
-    (ap accepted-side (toZ-ofZ side-fits) ∙ side-ok (side-left c), ap (inside plane-limit) (toZ-ofZ fits) ∙ within-limits)
-
--- a position on the plane has both coordinates within the limits
-coordinates : (E N : ℤ) → on-plane E N ≡ true → (inside plane-limit E ≡ true) × (inside plane-limit N ≡ true)
-unfolding on-plane
-coordinates E N e = both (inside plane-limit E) (inside plane-limit N) e
+-- the side, as it is passed on
+side-passed : (c : tie.Else2) → accepted-side (back (start (side-left c) .args .side)) ≡ true
+side-passed c = ap accepted-side (toZ-ofZ (start (side-left c) .fits .side)) ∙ side-ok (side-left c)
 
 cell-number-requires : tie.Need-cell-number-requires
-cell-number-requires c κs = number-asks c (start (side-left c) .fits .easting) (coordinates _ _ (plane-ok c) .0)
+cell-number-requires c κs = side-passed c
 
 cell-number-requires-2 : tie.Need-cell-number-requires-2
-cell-number-requires-2 c κs =
-    let left = c .before in
-    number-asks left (start (side-left left) .fits .northing) (coordinates _ _ (plane-ok left) .1)
+cell-number-requires-2 c κs = side-passed (c .before)
 
 -- the number of a call whose arguments were passed on
 number-is :
@@ -107,7 +92,8 @@ returns-3 c =
     let f = start (side-left left) .fits in
     let east = number-is (c .before .cell-number .ok) (c .before .cell-number .ensures) (toZ-ofZ (f .side)) (toZ-ofZ (f .easting)) in
     let north = number-is (c .cell-number2 .ok) (c .cell-number2 .ensures) (toZ-ofZ (f .side)) (toZ-ofZ (f .northing)) in
-    promised _ _ _ (cell-accepted _ _ _ (side-ok (side-left left)) (plane-ok left) ∙ sym (ap₂ Cell east north))
+    let passes = sym (plane-is (left .before)) ∙ not-false (left .before .is-on-plane .result) (left .if2 .left) in
+    promised _ _ _ (cell-accepted _ _ _ (side-ok (side-left left)) passes ∙ sym (ap₂ Cell east north))
 
 pub cell-spec : {M : Type 1} → statement M
 cell-spec =
