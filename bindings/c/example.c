@@ -66,9 +66,10 @@ static void cells_along(int axis, int64_t side)
     const int64_t limit = INT64_C(5000000000);
     const int64_t coordinates[] = {-1,     0,         1,          -side,     -side - 1, limit,
                                    -limit, limit + 1, -limit - 1, INT64_MAX, INT64_MIN};
+    const size_t count = sizeof coordinates / sizeof *coordinates;
 
     printf("side %" PRId64 " cm, %s:", side, axis == 0 ? "east" : "north");
-    for (size_t i = 0; i < sizeof coordinates / sizeof *coordinates; i++) {
+    for (size_t i = 0; i < count; i++) {
         int64_t at[2] = {0, 0}, out[2];
 
         at[axis] = coordinates[i];
@@ -78,7 +79,7 @@ static void cells_along(int axis, int64_t side)
             printf(" %" PRId64 " in %" PRId64, coordinates[i], out[axis]);
         else
             printf(" %" PRId64 " refused %d", coordinates[i], refusal);
-        printf(i + 1 < sizeof coordinates / sizeof *coordinates ? "," : "\n");
+        putchar(i + 1 < count ? ',' : '\n');
     }
 }
 

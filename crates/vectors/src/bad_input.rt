@@ -6,18 +6,19 @@ use crate::rows::refused_row;
 use parameters::Parameters;
 use units::refusals::OUT_OF_LIMITS;
 
-const LEAST: i64 = -9_223_372_036_854_775_808;
+// The ends of an i64.
+pub(crate) const LEAST: i64 = -9_223_372_036_854_775_808;
 
-const MOST: i64 = 9_223_372_036_854_775_807;
+pub(crate) const MOST: i64 = 9_223_372_036_854_775_807;
 
 // The centre and the false origin.
 const LAT0: i64 = 187_200_000;
 
 const LON0: i64 = 36_000_000;
 
-const FALSE_EASTING: i64 = 432_100_000;
+pub(crate) const FALSE_EASTING: i64 = 432_100_000;
 
-const FALSE_NORTHING: i64 = 321_000_000;
+pub(crate) const FALSE_NORTHING: i64 = 321_000_000;
 
 // Each coordinate in turn.
 fn bad_position(lat: i64, lon: i64) {

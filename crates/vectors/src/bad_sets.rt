@@ -1,5 +1,7 @@
 // ETRS-LAEA with one field at each of its limits, one past it and far beyond it, and with all pairs of fields past a
 // limit: the number of the first field that is out is told.
+use crate::bad_input::LEAST;
+use crate::bad_input::MOST;
 use crate::names;
 use crate::names::name;
 use crate::rows::forward_of;
@@ -127,10 +129,9 @@ fn bad_fields(z: i64) {
     bad(FALSE_NORTHING, z);
 }
 
-// The least and the greatest i64.
 pub(crate) fn extremes() {
-    bad_fields(-9_223_372_036_854_775_808);
-    bad_fields(9_223_372_036_854_775_807);
+    bad_fields(LEAST);
+    bad_fields(MOST);
 }
 
 // The limits of a span, and the numbers next to it.

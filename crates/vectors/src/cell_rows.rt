@@ -1,4 +1,8 @@
 // Cells of every side, on both sides of 0 and of the limit.
+use crate::bad_input::FALSE_EASTING;
+use crate::bad_input::FALSE_NORTHING;
+use crate::bad_input::LEAST;
+use crate::bad_input::MOST;
 use cells::cell;
 use cells::cell_told;
 use gaps::gaps_of;
@@ -17,15 +21,6 @@ use units::refusals::OUT_OF_LIMITS;
 ghost use mathlib.Core.Path.{_≡_};
 ghost use Rattle.cells.specs.Cells.{cellTold};
 ghost use Rattle.vectors.specs.Rows.{cellAt, isNear};
-
-const LEAST: i64 = -9_223_372_036_854_775_808;
-
-const MOST: i64 = 9_223_372_036_854_775_807;
-
-// Document 001's false origin.
-const EASTING: i64 = 432_100_000;
-
-const NORTHING: i64 = 321_000_000;
 
 // What is asked.
 struct Question {
@@ -79,15 +74,24 @@ fn row(q: Question, right: Told) -> bool
 }
 
 pub(crate) fn sides() {
-    row(at(10_000, EASTING, NORTHING), accepted(43_210, 32_100));
-    row(at(100_000, EASTING, NORTHING), accepted(4_321, 3_210));
-    row(at(1_000_000, EASTING, NORTHING), accepted(432, 321));
+    row(
+        at(10_000, FALSE_EASTING, FALSE_NORTHING),
+        accepted(43_210, 32_100),
+    );
+    row(
+        at(100_000, FALSE_EASTING, FALSE_NORTHING),
+        accepted(4_321, 3_210),
+    );
+    row(
+        at(1_000_000, FALSE_EASTING, FALSE_NORTHING),
+        accepted(432, 321),
+    );
     let right = refused(OUT_OF_LIMITS);
-    row(at(1_000, EASTING, NORTHING), right);
-    row(at(0, EASTING, NORTHING), right);
-    row(at(-10_000, EASTING, NORTHING), right);
-    row(at(LEAST, EASTING, NORTHING), right);
-    row(at(MOST, EASTING, NORTHING), right);
+    row(at(1_000, FALSE_EASTING, FALSE_NORTHING), right);
+    row(at(0, FALSE_EASTING, FALSE_NORTHING), right);
+    row(at(-10_000, FALSE_EASTING, FALSE_NORTHING), right);
+    row(at(LEAST, FALSE_EASTING, FALSE_NORTHING), right);
+    row(at(MOST, FALSE_EASTING, FALSE_NORTHING), right);
 }
 
 // One side to the south or west of 0, and 1 cm more.
@@ -108,7 +112,7 @@ pub(crate) fn around_zero() {
     row(at(100_000, -19_999_999, 19_999_999), accepted(-200, 199));
 }
 
-// A coordinate along either axis.
+// A coordinate beyond the limits, along each axis.
 fn refused_at(side: i64, coordinate: i64) {
     let right = refused(OUT_OF_LIMITS);
     row(at(side, coordinate, 0), right);
