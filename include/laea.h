@@ -1,6 +1,7 @@
 /*
  * Lambert Azimuthal Equal-Area (EPSG method 9820): latitude and longitude to easting and northing,
- * and back, one point or a list at a time; and the map cell that a position lies in. For C and C++.
+ * and back, one point or a list at a time; the map cell that a position lies in; and the code of a
+ * cell. For C and C++.
  *
  *     double out[2];
  *     uint8_t refusal = laea_forward(LAEA_ETRS_LAEA, 50.0, 5.0, out);
@@ -27,13 +28,15 @@
  *
  * Refusals. Every value of every argument is taken, NaN and infinity too, and is answered or refused
  * with a number. The first that applies is told: of a single point 11 to 16, 2, 3, 4 in this order; of
- * a list call 5, 6, 11 to 16, and then of each point 2, 3, 4. Both coordinates are tested for 2 before
- * either is for 3. The limits of 3 are tested on the double itself, before it is rounded.
+ * a list call 5, 6, 11 to 16, and then of each point 2, 3, 4; of a code to be written 3, 32, 33. Both
+ * coordinates are tested for 2 before either is for 3, and both cell numbers for 3 before either is
+ * for 32. The limits of 3 are tested on the double itself, before it is rounded.
  *
  *   2  LAEA_NOT_FINITE     a coordinate is NaN or infinite
  *   3  LAEA_OUT_OF_LIMITS  a latitude beyond 90 or a longitude beyond 180 degrees, either side of 0;
  *                          an easting or a northing beyond 50,000,000 m (5,000,000,000 cm), either
- *                          side of 0; a cell's side that is not one of the three
+ *                          side of 0; a cell's side that is not one of the three; a cell number
+ *                          farther from 0 than 5,000,000,000 divided by the side
  *   4  LAEA_TOO_FAR        too far from the centre of the projection: close to the point opposite to
  *                          it, or where the map has no position
  *   5  LAEA_UNEQUAL_LISTS  the lists of a call are not of one length
@@ -49,24 +52,33 @@
  *   15  LAEA_BAD_FALSE_EASTING   false_easting
  *   16  LAEA_BAD_FALSE_NORTHING  false_northing
  *
- * A refused call writes nothing: neither `out`, nor an element of a list, nor the count.
+ * and of a cell's code:
+ *
+ *   31  LAEA_NOT_A_CODE     the text that is read is not the code of a cell
+ *   32  LAEA_NEGATIVE_CELL  a cell number is negative: such a cell has no code
+ *   33  LAEA_LITTLE_ROOM    fewer bytes are lent than this code has
+ *
+ * A refused call writes nothing: neither `out`, nor an element of a list, nor a byte of a text, nor
+ * the count or the length.
  *
  * What the caller owes, since nothing can test it:
- *   - `out` points to two elements and `count` to one; a list points to as many elements as the
- *     length after it says. All stay valid for the whole call, and no other thread writes them.
- *   - None is null, but a list whose length is 0 may be.
+ *   - `out` points to as many elements as its declaration says, `count` and `length` to one; a list
+ *     or a text points to as many elements as the length after it says. All stay valid for the whole
+ *     call, and no other thread writes them.
+ *   - None is null, but a list or a text whose length is 0 may be.
  *   - Each pointer is aligned as its type asks.
- *   - What a call writes (`out`; the two lists of answers, the marks, the count) overlaps nothing
- *     else that the call is given. The two lists that a call only reads may be one.
+ *   - What a call may write (`out`; the two lists of answers, the marks, the count; the bytes lent for
+ *     a code, its length) overlaps nothing else that the call is given. The two lists that a call only
+ *     reads may be one.
  *
  * Threads. Any number of threads may call at once, each with its own places to write.
  *
  * Stack. A call takes less than 32 KB of the caller's stack.
  *
- * One point or a list. Each call, single or list, copies a table of sines (22 KB, about 0.5
- * microseconds) and works out the constants of its set. A single call pays that for one point, a list
- * call once for up to LAEA_LIST_MOST. Use single calls where points come one by one, and lists where
- * a batch is at hand; the answers are the same.
+ * One point or a list. Each forward or inverse call, single or list, copies a table of sines (22 KB,
+ * about 0.5 microseconds) and works out the constants of its set. A single call pays that for one
+ * point, a list call once for up to LAEA_LIST_MOST. Use single calls where points come one by one, and
+ * lists where a batch is at hand; the answers are the same.
  *
  * Platform: x86-64 Linux, for which the archive is compiled.
  *
@@ -84,8 +96,8 @@
 extern "C" {
 #endif
 
-/* 10,000 times the major number, 100 times the minor one, and the patch: 0.4.0. */
-#define LAEA_VERSION 400
+/* 10,000 times the major number, 100 times the minor one, and the patch: 0.5.0. */
+#define LAEA_VERSION 500
 
 /* What a call returns, and what a point's mark is. */
 #define LAEA_OK 0
@@ -100,9 +112,15 @@ extern "C" {
 #define LAEA_BAD_LON0 14
 #define LAEA_BAD_FALSE_EASTING 15
 #define LAEA_BAD_FALSE_NORTHING 16
+#define LAEA_NOT_A_CODE 31
+#define LAEA_NEGATIVE_CELL 32
+#define LAEA_LITTLE_ROOM 33
 
 /* The most points that a list call takes. */
 #define LAEA_LIST_MOST 4096
+
+/* The most bytes that a code has: those of cells of 100 m have up to 18, of 1 km 15, of 10 km 14. */
+#define LAEA_CODE_MOST 18
 
 /*
  * The parameter set. Copy an accepted set and assign the fields that differ:
@@ -165,6 +183,8 @@ static const laea_set LAEA_SPHERE = {
 #define laea_cell laea1_cell
 #define laea_forward_list laea1_forward_list
 #define laea_inverse_list laea1_inverse_list
+#define laea_write_code laea1_write_code
+#define laea_read_code laea1_read_code
 #define laea_set_refusal laea1_set_refusal
 #define laea_version laea1_version
 
@@ -221,6 +241,39 @@ uint8_t laea_inverse_list(laea_set set,
                           uint8_t *marks, size_t marks_length,
                           uint64_t *count);
 
+/*
+ * The code of a cell, as the INSPIRE geographical grid systems have it: its side (100m, 1km or 10km),
+ * N and its number north, E and its number east, without leading zeros. The cell of 1 km with number
+ * east 3962 and number north 2999 is 1kmN2999E3962. North stands before east in the text alone: in
+ * arguments and in out east stands before north.
+ *
+ * The cells that have a code are those of laea_cell with no number below 0. What is written reads back
+ * as the same side and numbers, and no other text is read as that cell.
+ *
+ * A text is a pointer and its length in bytes; no NUL ends it:
+ *
+ *     char text[LAEA_CODE_MOST];
+ *     uint64_t length;
+ *     if (laea_write_code(100000, 3962, 2999, text, sizeof text, &length) == LAEA_OK)
+ *         printf("%.*s\n", (int)length, text);
+ */
+
+/*
+ * Writes the code of a cell; the side is in cm. The result is LAEA_OK, and then the first bytes of
+ * text are the code, the others are as they were, and *length is how many bytes the code has; or it is
+ * the refusal number, and then text and *length are as they were. Refused 3, 32, 33.
+ */
+uint8_t laea_write_code(int64_t side, int64_t east, int64_t north,
+                        char *text, size_t text_length,
+                        uint64_t *length);
+
+/*
+ * Reads a text that holds a code and nothing else, neither a blank nor a NUL. The result is LAEA_OK,
+ * and then out is the side in cm, the number east and the number north; or it is 31, and then out is
+ * as it was.
+ */
+uint8_t laea_read_code(const char *text, size_t text_length, int64_t out[3]);
+
 /* Whether a set is accepted: LAEA_OK, or the number of the first field that is outside its range. */
 uint8_t laea_set_refusal(laea_set set);
 
@@ -236,7 +289,7 @@ static inline const char *laea_refusal_text(uint8_t number)
     case LAEA_NOT_FINITE:
         return "a coordinate is NaN or infinite";
     case LAEA_OUT_OF_LIMITS:
-        return "a coordinate or a cell's side is beyond its limits";
+        return "a coordinate, a cell's side or a cell number is beyond its limits";
     case LAEA_TOO_FAR:
         return "too far from the centre of the projection";
     case LAEA_UNEQUAL_LISTS:
@@ -255,6 +308,12 @@ static inline const char *laea_refusal_text(uint8_t number)
         return "the set's false easting is beyond 1,000,000,000 cm";
     case LAEA_BAD_FALSE_NORTHING:
         return "the set's false northing is beyond 1,000,000,000 cm";
+    case LAEA_NOT_A_CODE:
+        return "the text is not the code of a cell";
+    case LAEA_NEGATIVE_CELL:
+        return "a cell number is negative: such a cell has no code";
+    case LAEA_LITTLE_ROOM:
+        return "fewer bytes are lent than the code has";
     default:
         return "unknown refusal number";
     }

@@ -2,6 +2,7 @@
 #include <inttypes.h>
 #include <math.h>
 #include <stdio.h>
+#include <string.h>
 
 #include "laea.h"
 
@@ -81,6 +82,65 @@ static void cells_along(int axis, int64_t side)
             printf(" %" PRId64 " refused %d", coordinates[i], refusal);
         putchar(i + 1 < count ? ',' : '\n');
     }
+}
+
+/* From a position in mas to the code of its cell, and the code read back. */
+static void code(laea_set set, int64_t latitude, int64_t longitude, int64_t side)
+{
+    int64_t plane[2], numbers[2], out[3];
+    char text[LAEA_CODE_MOST];
+    uint64_t length = 0;
+    uint8_t refusal = laea_forward_whole(set, latitude, longitude, plane);
+
+    if (refusal == LAEA_OK)
+        refusal = laea_cell(side, plane[0], plane[1], numbers);
+    if (refusal == LAEA_OK)
+        refusal = laea_write_code(side, numbers[0], numbers[1], text, sizeof text, &length);
+    printf("code at %" PRId64 " %" PRId64 " mas: ", latitude, longitude);
+    if (refusal == LAEA_OK) {
+        printf("%.*s; and back: ", (int)length, text);
+        refusal = laea_read_code(text, length, out);
+    }
+    if (refusal == LAEA_OK)
+        printf("side %" PRId64 " cm, cell %" PRId64 " %" PRId64 "\n", out[0], out[1], out[2]);
+    else
+        printf("refused %d: %s\n", refusal, laea_refusal_text(refusal));
+}
+
+/* A code with more bytes lent than it has, or fewer. */
+static void code_into(size_t lent)
+{
+    char text[] = "...............";
+    uint64_t length = 77;
+    uint8_t refusal = laea_write_code(100000, 3962, 2999, text, lent, &length);
+
+    printf("code with %d bytes lent: %d, %s; the bytes are %s, the length %" PRIu64 "\n", (int)lent,
+           refusal, laea_refusal_text(refusal), text, length);
+}
+
+static void read_code(const char *text)
+{
+    int64_t out[3];
+    uint8_t refusal = laea_read_code(text, strlen(text), out);
+
+    printf("text \"%s\": ", text);
+    if (refusal == LAEA_OK)
+        printf("side %" PRId64 " cm, cell %" PRId64 " %" PRId64 "\n", out[0], out[1], out[2]);
+    else
+        printf("refused %d: %s\n", refusal, laea_refusal_text(refusal));
+}
+
+/* No bytes at all: both calls are refused and write nothing. */
+static void no_bytes(void)
+{
+    int64_t out[3] = {7, 8, 9};
+    uint64_t length = 77;
+    uint8_t read = laea_read_code(NULL, 0, out);
+    uint8_t written = laea_write_code(100000, 3962, 2999, NULL, 0, &length);
+
+    printf("no bytes, by null pointers: read refused %d, out is %" PRId64 " %" PRId64 " %" PRId64
+           " still; written refused %d, the length is %" PRIu64 " still\n",
+           read, out[0], out[1], out[2], written, length);
 }
 
 /* Sets with a wrong field: each call tells the first. */
@@ -171,6 +231,17 @@ int main(void)
         cells_along(0, side);
         cells_along(1, side);
     }
+    for (int64_t side = 10000; side <= 1000000; side *= 10)
+        code(LAEA_ETRS_LAEA, 180000000, 18000000, side);
+    code(LAEA_SPHERE, 0, -18000000, 100000);
+    code_into(15);
+    code_into(12);
+    read_code("10kmN5000E0");
+    read_code("10kmN5001E0");
+    read_code("1kmE3962N2999");
+    read_code("1kmN02999E3962");
+    read_code("1kmN2999E3962 ");
+    no_bytes();
     printf("refusal 7: %s\n", laea_refusal_text(7));
     return 0;
 }

@@ -44,6 +44,17 @@ extern "C" {
         count: *mut u64,
     ) -> u8;
 
+    pub fn laea1_write_code(
+        side: i64,
+        east: i64,
+        north: i64,
+        text: *mut u8,
+        text_length: usize,
+        length: *mut u64,
+    ) -> u8;
+
+    pub fn laea1_read_code(text: *const u8, text_length: usize, out: *mut [i64; 3]) -> u8;
+
     pub fn laea1_set_refusal(set: Set) -> u8;
 
     pub fn laea1_version() -> u32;

@@ -4,6 +4,8 @@
 //! centres, on the sphere and on the ellipsoid. The work is done by the archive `liblaea_c.a`,
 //! whose functions are written and proved in Rattle; this crate gives them Rust's types and adds
 //! nothing to the answers. Every input is answered: with finite numbers, or with a [`Refusal`].
+//! [`cell`] tells the map cell that a position lies in, and [`GridCode`] writes and reads a cell's
+//! code.
 //!
 //! ```
 //! use laea::{Position, Set};
@@ -47,6 +49,7 @@
 
 mod archive;
 mod cells;
+mod codes;
 mod lists;
 mod positions;
 mod refusal;
@@ -54,6 +57,7 @@ mod set;
 mod single;
 
 pub use cells::{cell, Cell, Side};
+pub use codes::{GridCode, CODE_MOST};
 pub use lists::LIST_MOST;
 pub use positions::{PlanePosition, Position, WholePlanePosition, WholePosition};
 pub use refusal::Refusal;
@@ -64,8 +68,8 @@ pub use set::Set;
 #[doc = include_str!("../README.md")]
 struct Readme;
 
-/// The version of this crate as one number: 400 is 0.4.0.
-pub const VERSION: u32 = 400;
+/// The version of this crate as one number: 500 is 0.5.0.
+pub const VERSION: u32 = 500;
 
 /// The version of the archive that is linked, as one number like [`VERSION`].
 ///

@@ -6,8 +6,9 @@ use core::fmt;
 /// Why a call, or one point of a list, was refused.
 ///
 /// The names are those of `include/laea.h`. The first that applies is told: of a single point 11 to
-/// 16, 2, 3, 4 in this order; of a list call 5, 6, 11 to 16, and then of each point 2, 3, 4. Both
-/// coordinates are tested for 2 before either is for 3.
+/// 16, 2, 3, 4 in this order; of a list call 5, 6, 11 to 16, and then of each point 2, 3, 4; of a
+/// code to be written 3, 32, 33. Both coordinates are tested for 2 before either is for 3, and both
+/// cell numbers for 3 before either is for 32.
 ///
 /// ```
 /// use laea::{Position, Refusal, Set};
@@ -24,7 +25,7 @@ pub enum Refusal {
     /// 2: a coordinate is NaN or infinite.
     NotFinite,
     /// 3: a latitude beyond ±90°, a longitude beyond ±180°, an easting or a northing beyond
-    /// ±50,000,000 m.
+    /// ±50,000,000 m, a cell number beyond ±5,000,000,000 cm divided by the side.
     OutOfLimits,
     /// 4: too far from the centre of the projection.
     TooFar,
@@ -44,6 +45,12 @@ pub enum Refusal {
     BadFalseEasting,
     /// 16: [`Set::false_northing`](crate::Set::false_northing) is outside its range.
     BadFalseNorthing,
+    /// 31: the text that is read is not the code of a cell.
+    NotACode,
+    /// 32: a cell number is negative: such a cell has no code.
+    NegativeCell,
+    /// 33: fewer bytes are lent than this code has.
+    LittleRoom,
     /// A number that this version of the crate has no name for.
     Unknown(u8),
 }
@@ -73,6 +80,9 @@ impl Refusal {
             14 => Refusal::BadLon0,
             15 => Refusal::BadFalseEasting,
             16 => Refusal::BadFalseNorthing,
+            31 => Refusal::NotACode,
+            32 => Refusal::NegativeCell,
+            33 => Refusal::LittleRoom,
             unknown => Refusal::Unknown(unknown),
         })
     }
@@ -91,6 +101,9 @@ impl Refusal {
             Refusal::BadLon0 => 14,
             Refusal::BadFalseEasting => 15,
             Refusal::BadFalseNorthing => 16,
+            Refusal::NotACode => 31,
+            Refusal::NegativeCell => 32,
+            Refusal::LittleRoom => 33,
             Refusal::Unknown(number) => number,
         }
     }
@@ -99,7 +112,9 @@ impl Refusal {
     pub const fn text(self) -> &'static str {
         match self {
             Refusal::NotFinite => "a coordinate is NaN or infinite",
-            Refusal::OutOfLimits => "a coordinate or a cell's side is beyond its limits",
+            Refusal::OutOfLimits => {
+                "a coordinate, a cell's side or a cell number is beyond its limits"
+            }
             Refusal::TooFar => "too far from the centre of the projection",
             Refusal::UnequalLists => "the lists are not of one length",
             Refusal::LongLists => "the lists are longer than 4,096",
@@ -117,6 +132,9 @@ impl Refusal {
             }
             Refusal::BadFalseEasting => "the set's false easting is beyond 1,000,000,000 cm",
             Refusal::BadFalseNorthing => "the set's false northing is beyond 1,000,000,000 cm",
+            Refusal::NotACode => "the text is not the code of a cell",
+            Refusal::NegativeCell => "a cell number is negative: such a cell has no code",
+            Refusal::LittleRoom => "fewer bytes are lent than the code has",
             Refusal::Unknown(_) => "unknown refusal number",
         }
     }
@@ -153,7 +171,7 @@ mod tests {
             let refusal = answer(number, ()).unwrap_err();
             assert_eq!(Refusal::from_number(number), Some(refusal));
             assert_eq!(refusal.number(), number);
-            let known = matches!(number, 2..=6 | 11..=16);
+            let known = matches!(number, 2..=6 | 11..=16 | 31..=33);
             assert_eq!(refusal == Refusal::Unknown(number), !known);
             assert!(refusal
                 .to_string()

@@ -64,6 +64,7 @@ fn numbers() {
     let header = header();
     assert_eq!(defined(&header, "LAEA_VERSION"), laea::VERSION);
     assert_eq!(defined(&header, "LAEA_LIST_MOST") as usize, laea::LIST_MOST);
+    assert_eq!(defined(&header, "LAEA_CODE_MOST") as usize, laea::CODE_MOST);
 }
 
 #[test]

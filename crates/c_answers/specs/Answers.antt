@@ -6,10 +6,10 @@ use mathlib.Core.List.{List, [], _∷_}
 use lib.IntN.{ℤ}
 use lib.Ieee.{Float}
 use Rattle.units.specs.declared.answers.Told.{Told}
+use Rattle.units.specs.Answers.{written}
 use Rattle.pairs.specs.declared.Row.{Row}
 use Rattle.point_lists.specs.declared.ListAnswer.{ListAnswer}
 use Rattle.point_lists.specs.declared.ListAnswer.the-variants.{Count, Refused}
-use Rattle.point_lists.specs.Lists.{written}
 
 -- A call for a single answer: it returns the refusal number; `out` has the two values where that is 0, else what it had.
 pub record Answered {A : Type 0} (refusal : ℕ) (first second : A) (out out′ : List A) (r : ℕ) : Type 0 where

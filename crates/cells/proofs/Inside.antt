@@ -13,8 +13,8 @@ use Rattle.integers.proofs.Greatest.{not-true}
 use Rattle.units.specs.Units.{plane-limit}
 use Rattle.units.specs.Spans.{within, same, inside}
 use Rattle.units.proofs.Spans.{within-bounds, same-equal}
-use Rattle.cells.specs.Cells.{accepted-side, cellNumber}
-use Rattle.cells.specs.Theorems.{InCell, centimetres, WhollyInside, CellHolds, top, NumbersGiven, CellsInside, TopCell}
+use Rattle.cells.specs.Cells.{accepted-side, cellNumber, top}
+use Rattle.cells.specs.Theorems.{InCell, centimetres, WhollyInside, CellHolds, NumbersGiven, CellsInside, TopCell}
 use Rattle.cells.proofs.Sides.{of-each-side, side-some, side-above-1}
 use Rattle.cells.proofs.Counting.{run-inside}
 use Rattle.cells.proofs.NumberLaws.{edges-rise, no-later, next-edge, held, number-is, first-in, last-in, number-cell, number-greatest}

@@ -12,7 +12,7 @@ use mir.Facts.{toZ-ofZ}
 use Rattle.integers.proofs.Greatest.{not-true}
 use Rattle.units.specs.Spans.{same}
 use Rattle.units.proofs.Spans.{either, same-equal}
-use Rattle.cells.specs.Cells.{accepted-side}
+use Rattle.cells.specs.Cells.{accepted-side, top}
 
 -- a side that is held as the bits of an accepted one is accepted
 pub side-by-bits : {side : ℤ} → SFits w64 side → {k : ℕ} → accepted-side (toZ w64 k) ≡ true → ofZ w64 side ≡ k → accepted-side side ≡ true
@@ -46,3 +46,6 @@ side-above-1 = of-each-side (λ side. 1 < natAbs side) (lit< tt) (lit< tt) (lit<
 
 pub side-most : (side : ℤ) → accepted-side side ≡ true → natAbs side ≤ 1_000_000
 side-most = of-each-side (λ side. natAbs side ≤ 1_000_000) (lit≤ tt) (lit≤ tt) (lit≤ tt)
+
+pub top-most : (side : ℤ) → accepted-side side ≡ true → top (natAbs side) ≤ 500_000
+top-most = of-each-side (λ side. top (natAbs side) ≤ 500_000) (lit≤ tt) (lit≤ tt) (lit≤ tt)

@@ -1,11 +1,12 @@
 -- Document 01, "Cells", with the cell number of document 02, b): the numbers of the cell that a position lies in, or the refusal. Sides and
 -- coordinates are in cm.
-use Prim.Native.Nat.{ℕ, _*_}
-use mathlib.Core.Bool.{Bool, _||_}
+use Prim.Native.Nat.{ℕ, _*_, _/_}
+use mathlib.Core.Bool.{Bool, _&&_, _||_}
 use lib.IntN.{ℤ, pos, natAbs, _-ℤ_, _*ℤ_}
 use lib.Signed.{leZ}
 use Rattle.integers.specs.Greatest.{greatest}
-use Rattle.units.specs.Spans.{same, on-plane}
+use Rattle.units.specs.Units.{plane-limit}
+use Rattle.units.specs.Spans.{same, inside, on-plane}
 use Rattle.units.specs.Refusals.{out-of-limits, unless}
 use Rattle.units.specs.declared.answers.Told.{Told}
 use Rattle.units.specs.Answers.{accepted, refused, answered}
@@ -27,11 +28,21 @@ not-above side coordinate number = leZ (number *ℤ pos side) coordinate
 unfoldable pub cellNumber : ℕ → ℤ → ℤ
 cellNumber side coordinate = greatest-whole (not-above side coordinate) (natAbs coordinate)
 
--- ---- the answer
+-- ---- the sides and the numbers that cells have
 
 -- "a side of 10,000, 100,000 or 1,000,000 cm"
 unfoldable pub accepted-side : ℤ → Bool
 accepted-side side = same side (pos 10_000) || same side (pos 100_000) || same side (pos 1_000_000)
+
+-- the number of the top cell along an axis: so many sides reach to the limit
+abbrev pub top : ℕ → ℕ
+top side = plane-limit / side
+
+-- cells have no number beyond −top and top (`NumbersGiven`)
+unfoldable pub numbered : ℕ → ℤ → ℤ → Bool
+numbered side east north = inside (top side) east && inside (top side) north
+
+-- ---- the answer
 
 -- "Another side, or a position beyond ±5,000,000,000 cm: refused 3."
 unfoldable pub cellRefusal : ℤ → ℤ → ℤ → ℕ

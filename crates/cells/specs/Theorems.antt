@@ -1,6 +1,6 @@
 -- What holds of cells, over the definitions that the contracts cite. What `OneCell` states is proved as `one-cell` in proofs/, and so
 -- the others. What is said along an axis holds along both: one rule gives both numbers.
-use Prim.Native.Nat.{ℕ, zero, suc, _+_, _*_, _/_, _<_}
+use Prim.Native.Nat.{ℕ, zero, suc, _+_, _*_, _<_}
 use mathlib.Core.Path.{_≡_}
 use mathlib.Core.Bool.{Bool, true, cond}
 use lib.IntN.{ℤ, pos, negℤ, natAbs, _+ℤ_, _-ℤ_, _*ℤ_}
@@ -9,7 +9,7 @@ use Rattle.units.specs.Units.{plane-limit}
 use Rattle.units.specs.Spans.{within, same, inside, on-plane}
 use Rattle.units.specs.Refusals.{out-of-limits}
 use Rattle.cells.specs.declared.CellAnswer.the-variants.{Cell, Refused}
-use Rattle.cells.specs.Cells.{accepted-side, cellNumber, cellOf}
+use Rattle.cells.specs.Cells.{accepted-side, cellNumber, top, cellOf}
 
 -- ---- along an axis: the cell number
 
@@ -75,10 +75,6 @@ abbrev pub CellHolds : Type 0
 CellHolds = (side : ℕ) → 0 < side → (number : ℤ) → WhollyInside side number → centimetres side number ≡ side
 
 -- ---- along an axis: which cells there are, for the accepted sides
-
--- the number of the top cell: so many sides reach to the limit
-abbrev pub top : ℕ → ℕ
-top side = plane-limit / side
 
 -- The numbers of coordinates within the limits run from −top to top.
 abbrev pub NumbersGiven : Type 0

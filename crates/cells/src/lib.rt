@@ -1,13 +1,15 @@
 // The cell of a position: document 01, "Cells", with the cell number of document 02, b). Sides and coordinates are in cm.
+use units::PLANE_MOST;
 use units::answers::Told;
 use units::answers::accepted;
 use units::answers::refused;
+use units::are_within;
 use units::is_on_plane;
 use units::refusals::OUT_OF_LIMITS;
 ghost use mathlib.Core.Path.{_≡_};
 ghost use mathlib.Core.Bool.{true};
-ghost use lib.IntN.{natAbs};
-ghost use Rattle.cells.specs.Cells.{accepted-side, cellNumber, cellOf, cell-told, cellTold};
+ghost use lib.IntN.{pos, natAbs};
+ghost use Rattle.cells.specs.Cells.{accepted-side, cellNumber, top, numbered, cellOf, cell-told, cellTold};
 
 // The cell's numbers along the two axes, or the refusal number alone.
 pub enum CellAnswer {
@@ -16,11 +18,11 @@ pub enum CellAnswer {
 }
 
 // The sides of 100 m, 1 km and 10 km.
-const SIDE_100_M: i64 = 10_000;
+pub const SIDE_100_M: i64 = 10_000;
 
-const SIDE_1_KM: i64 = 100_000;
+pub const SIDE_1_KM: i64 = 100_000;
 
-const SIDE_10_KM: i64 = 1_000_000;
+pub const SIDE_10_KM: i64 = 1_000_000;
 
 // Whether cells may have this side.
 pub fn is_side(side: i64) -> bool
@@ -44,6 +46,23 @@ pub fn cell_number(side: i64, coordinate: i64) -> i64
     } else {
         whole
     }
+}
+
+// The number of the top cell along an axis.
+pub fn top_number(side: i64) -> i64
+    requires { ⌜ accepted-side side ≡ true ⌝ }
+    ensures { λ r. ⌜ r ≡ pos (top (natAbs side)) ⌝ }
+{
+    PLANE_MOST / side
+}
+
+// Whether cells of this side have these numbers.
+pub fn are_numbers(side: i64, east: i64, north: i64) -> bool
+    requires { ⌜ accepted-side side ≡ true ⌝ }
+    ensures { λ r. ⌜ r ≡ numbered (natAbs side) east north ⌝ }
+{
+    let top = top_number(side);
+    are_within(-top, top, east, -top, top, north)
 }
 
 // Any side, any position: the customer's call.

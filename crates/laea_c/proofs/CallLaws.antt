@@ -3,11 +3,12 @@ use mathlib.Core.Path.{_≡_, sym, ap, subst, _∙_}
 use mathlib.Core.List.{List}
 use Prim.Native.Nat.{ℕ, zero}
 use lib.Ieee.{Float}
+use Rattle.units.specs.Answers.{Counted}
 use Rattle.parameters.specs.declared.Parameters.{Parameters}
 use Rattle.pairs.specs.declared.Row.{Row}
 use Rattle.point_lists.specs.declared.ListAnswer.{ListAnswer}
 use Rattle.row_lists.specs.Rows.{zeros}
-use Rattle.point_lists.specs.Lists.{listRefusal, listAnswer, Counted, list-told, ListCall}
+use Rattle.point_lists.specs.Lists.{listRefusal, listAnswer, list-told, ListCall}
 use Rattle.c_answers.specs.Answers.{countAfter}
 use Rattle.laea_c.specs.Calls.{ListAnswered}
 

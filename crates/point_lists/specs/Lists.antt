@@ -7,7 +7,7 @@ use lib.Dec.{eqb, leb}
 use lib.Ieee.{Float}
 use lib.ListN.{length}
 use Rattle.units.specs.Refusals.{unequal-lists, long-lists, unless, firstOf}
-use Rattle.units.specs.Answers.{answered}
+use Rattle.units.specs.Answers.{answered, written, Counted, counted}
 use Rattle.parameters.specs.declared.Parameters.{Parameters}
 use Rattle.parameters.specs.ParameterSet.{setRefusal}
 use Rattle.pairs.specs.declared.Row.{Row}
@@ -29,19 +29,11 @@ unfoldable pub listRefusal : Parameters → List Float → List Float → List F
 listRefusal p xs ys first second mark =
     firstOf (lengthRefusal (length xs) (length ys) (length first) (length second) (length mark)) (setRefusal p)
 
--- Refused calls "write nothing": a lent list after the call, from what a call without refusal writes and what was there
-abbrev pub written : {A : Type 0} → ℕ → List A → List A → List A
-written refusal new old = answered (λ (n : ℕ). old) refusal new
-
 -- "and return the number, no count"
 abbrev pub listAnswer : ℕ → ℕ → ListAnswer
 listAnswer refusal count = answered Refused refusal (Count count)
 
--- what the answer tells: its refusal number, 0 where it has none, and the count, 0 where it has none
-pub record Counted : Type 0 where
-  pub refusal : ℕ
-  pub count : ℕ
-
+-- the number and the count of each case
 abbrev pub list-told : ListAnswer → Counted
 list-told (Count count) = record { refusal = 0; count = count }
 list-told (Refused number) = record { refusal = number; count = 0 }
@@ -53,7 +45,7 @@ pub record Listed (refusal : ℕ) (points : List Row) (first first′ second sec
   pub second-are : second′ ≡ written refusal (secondValues points) second
   pub marks-are : mark′ ≡ written refusal (marks points) mark
   pub answer-is : answer ≡ listAnswer refusal (zeros mark′)
-  pub answer-tells : list-told answer ≡ record { refusal = refusal; count = answered (λ (n : ℕ). 0) refusal (zeros mark′) }
+  pub answer-tells : list-told answer ≡ counted refusal (zeros mark′)
 
 -- a call that works out each point by `row`
 abbrev pub ListCall :

@@ -5,10 +5,11 @@ use mathlib.Core.List.{List, [], _∷_, _++_}
 use lib.IntN.{pos, negsuc}
 use lib.Ieee.{Float, fin, binary64, mul, ofInt}
 use lib.ListN.{take, drop, replicate}
+use Rattle.units.specs.Answers.{written}
 use Rattle.parameters.specs.declared.Parameters.{Parameters}
 use Rattle.pairs.specs.declared.Row.{Row}
 use Rattle.row_lists.specs.Rows.{rowOf, rows, firstValues, secondValues, marks, zeros}
-use Rattle.point_lists.specs.Lists.{listRefusal, written, listAnswer}
+use Rattle.point_lists.specs.Lists.{listRefusal, listAnswer}
 use Rattle.judging.specs.declared.doubles.Digest.{Digest}
 use Rattle.judging.specs.Doubles.{isTold, digestOf, sameDigest}
 use Rattle.point_vectors.specs.declared.list_rows.Outcome.{Outcome}

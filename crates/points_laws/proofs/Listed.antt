@@ -6,6 +6,7 @@ use mathlib.Core.List.{List}
 use Prim.Native.Nat.{ℕ, zero, suc, _<_}
 use lib.Ieee.{Float, nan}
 use lib.ListN.{length, getD}
+use Rattle.units.specs.Answers.{written}
 use Rattle.parameters.specs.declared.Parameters.{Parameters}
 use Rattle.parameters.specs.ParameterSet.{setRefusal}
 use Rattle.pairs.specs.declared.Row.{Row}
@@ -15,7 +16,7 @@ use Rattle.point_lists.specs.declared.ListAnswer.{ListAnswer}
 use Rattle.row_lists.specs.Rows.{rowAt, forwardAt, inverseAt, rows, firstValues, secondValues, marks}
 use Rattle.point_lists.specs.Lists.{lengthRefusal, listRefusal}
 use Rattle.row_lists.specs.Rows.{zeros}
-use Rattle.point_lists.specs.Lists.{written, listAnswer, ListCall}
+use Rattle.point_lists.specs.Lists.{listAnswer, ListCall}
 use Rattle.row_lists.proofs.ListLaws.{column-at, column-length}
 use Rattle.point_lists.proofs.ListedLaws.{equal-lengths}
 use Rattle.points_laws.specs.Theorems.{AtEachIndex, ForwardToldAt, InverseToldAt}

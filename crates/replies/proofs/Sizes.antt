@@ -10,7 +10,8 @@ use Rattle.text.proofs.Digits.{text-size}
 use Rattle.replies.specs.declared.Reply.{Reply}
 use Rattle.replies.specs.declared.Reply.the-variants.{Plane, Position, Refused, Bad}
 use Rattle.text.specs.Ascii.{ascii}
-use Rattle.replies.specs.Replies.{pairText, replyText}
+use Rattle.text.specs.Numbers.{pairText}
+use Rattle.replies.specs.Replies.{replyText}
 
 -- both numbers have at most 11 digits
 abbrev pub SmallPair : ℤ → ℤ → Type 0

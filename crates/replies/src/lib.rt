@@ -1,10 +1,11 @@
 // What a line of the program is answered, as text: document 01, "The program".
 use text::put_bytes;
-use text::put_number;
+use text::put_labelled;
+use text::put_pair;
 ghost use Prim.Native.Nat.{_+_, _≤_};
 ghost use lib.ListN.{length};
 ghost use Rattle.text.specs.Pasting.{Put};
-ghost use Rattle.replies.specs.Replies.{labelled, pairText, replyText};
+ghost use Rattle.replies.specs.Replies.{replyText};
 
 // Easting and northing in cm, latitude and longitude in mas, the refusal number, or that the line is
 // of another form.
@@ -13,24 +14,6 @@ pub enum Reply {
     Position(i64, i64),
     Refused(u8),
     Bad,
-}
-
-// Writes a label and a number at an index and answers the index after them.
-fn put_labelled(out: &mut [u8], at: usize, label: &[u8], z: i64) -> usize
-    requires { ⌜ at + length (labelled (now label) z) ≤ length (now out) ⌝ }
-    ensures { λ r. ⌜ Put (now (out .entry)) at (labelled (now (label .entry)) z) (now (out .exit)) r ⌝ }
-{
-    let after = put_bytes(out, at, label);
-    put_number(out, after, z)
-}
-
-// Writes two numbers, each with its label before it, and answers the index after them.
-fn put_pair(out: &mut [u8], at: usize, first: &[u8], x: i64, second: &[u8], y: i64) -> usize
-    requires { ⌜ at + length (pairText (now first) x (now second) y) ≤ length (now out) ⌝ }
-    ensures { λ r. ⌜ Put (now (out .entry)) at (pairText (now (first .entry)) x (now (second .entry)) y) (now (out .exit)) r ⌝ }
-{
-    let after = put_labelled(out, at, first, x);
-    put_labelled(out, after, second, y)
 }
 
 // Writes a reply at an index and answers the index after it.

@@ -2,18 +2,19 @@
 -- digit fewer. So a number below 10^m has at most m digits, they are digits, and their value is the number. Assumes nothing.
 use mathlib.Core.Path.{_≡_, refl, sym, ap, ap₂, _∙_, subst}
 use mathlib.Core.Bool.{Bool, true, false, _&&_, cond}
-use mathlib.Core.List.{List, [], _∷_, _++_}
+use mathlib.Core.List.{List, [], _∷_, _++_, append-nil, append-assoc}
 use mathlib.Core.Logic.{⊎-elim}
 use Prim.Native.Nat.{ℕ, zero, suc, _+_, _*_, _-_, _/_, _%_, _^_, _<_, _≤_}
-use native.Mathlib.Nat.{pow-suc}
+use native.Mathlib.Nat.{pow-suc, pow-le-pow-right}
 use native.Mathlib.Omega.{arith}
-use borrow.Author.Tests.{lt-ltb, le-ltb, le-leb, lt-leb}
+use borrow.Author.Tests.{lt-ltb, le-ltb, le-leb, lt-leb, ne-eqb, leb-true, eqb-false}
+use lib.Dec.{leb, lit<}
 use lib.IntN.{ℤ, pos, natAbs}
 use lib.Signed.{ltZ}
-use lib.ListN.{length, length-append}
+use lib.ListN.{length, getD, length-append}
 use Rattle.proof_kit.proofs.Order.{le-or-lt}
 use Rattle.integers.proofs.Greatest.{both}
-use Rattle.text.specs.Numbers.{minus, isDigit, areDigits, valueFrom, digitsWithin, decimal, numberText}
+use Rattle.text.specs.Numbers.{minus, isDigit, areDigits, valueFrom, digits-most, leadingZero, digitsWithin, decimal, numberText}
 
 -- ---- the two cases of a number's digits
 
@@ -55,6 +56,12 @@ unfolding decimal
 decimal-last n above h =
     last-digit 19 n above ∙ ap (λ (l : List ℕ). l ++ ((48 + n % 10) ∷ [])) (sym (more-room 18 (n / 10) (omega arith)))
 
+-- one more digit
+next-digit : (n b : ℕ) → 0 < n → 48 ≤ b → b ≤ 57 → 10 * n + (b - 48) < 2 ^ 64 → decimal (10 * n + (b - 48)) ≡ decimal n ++ (b ∷ [])
+next-digit n b some low high small =
+    decimal-last (10 * n + (b - 48)) (omega arith) small
+    ∙ ap₂ (λ (m d : ℕ). decimal m ++ (d ∷ [])) (omega arith) (omega arith)
+
 -- ---- how many there are
 
 digits-length : (k m n : ℕ) → n < 10 ^ suc m → length (digitsWithin k n) ≤ suc m
@@ -81,6 +88,9 @@ decimal-some n = digits-some 19 n
 
 pub digit : (b : ℕ) → 48 ≤ b → b ≤ 57 → isDigit b ≡ true
 digit b low high = ap₂ _&&_ (le-leb 48 b low) (le-leb b 57 high)
+
+digit-edges : (b : ℕ) → isDigit b ≡ true → (48 ≤ b) × (b ≤ 57)
+digit-edges b h = let parts = both (leb 48 b) (leb b 57) h in (leb-true 48 b (parts .0), leb-true b 57 (parts .1))
 
 are-digits-more : (xs ys : List ℕ) → areDigits xs ≡ true → areDigits ys ≡ true → areDigits (xs ++ ys) ≡ true
 are-digits-more [] ys p q = q
@@ -116,6 +126,75 @@ decimal-digits n = digits-are 20 n
 pub decimal-value : (n : ℕ) → n < 2 ^ 64 → valueFrom 0 (decimal n) ≡ n
 unfolding decimal
 decimal-value n h = digits-value 19 n (omega arith)
+
+-- ---- that they have no leading zeros
+
+first-of-more : (xs ys : List ℕ) → 1 ≤ length xs → getD (xs ++ ys) 0 0 ≡ getD xs 0 0
+first-of-more [] ys some = absurd (omega arith)
+first-of-more (x ∷ xs) ys some = refl
+
+digits-first : (m n : ℕ) → 0 < n → n < 10 ^ suc m → getD (digitsWithin (suc m) n) 0 0 ≡ 48 → ⊥
+digits-first zero n some h = rw (one-digit 0 n h) (λ e. omega (arith, e))
+digits-first (suc m) n some h =
+    by-digits (λ (l : List ℕ). getD l 0 0 ≡ 48 → ⊥) (suc m) n
+    (λ below e. omega (arith, e))
+    (λ above.
+    rw (first-of-more (digitsWithin (suc m) (n / 10)) ((48 + n % 10) ∷ []) (digits-some m (n / 10)))
+    (digits-first m (n / 10) (omega arith) (shorter (suc m) n h)))
+
+plain-first : (bs : List ℕ) → (getD bs 0 0 ≡ 48 → ⊥) → leadingZero bs ≡ false
+plain-first [] h = refl
+plain-first (b ∷ []) h = refl
+plain-first (b ∷ c ∷ bs) h = ne-eqb b 48 h
+
+pub decimal-plain : (n : ℕ) → n < 2 ^ 64 → leadingZero (decimal n) ≡ false
+decimal-plain zero h = rw (decimal-one 0 (omega arith)) refl
+decimal-plain (suc n) h = plain-first (decimal (suc n)) (unfold decimal in digits-first 19 (suc n) (omega arith) (omega arith))
+
+-- The digits of a number above 0 and then others are those of the value of all, where they are 19 at most.
+pub decimal-joined :
+    (m n : ℕ) (bs : List ℕ) →
+    0 < n →
+    n < 10 ^ m →
+    m + length bs ≤ 19 →
+    areDigits bs ≡ true →
+    decimal (valueFrom n bs) ≡ decimal n ++ bs
+decimal-joined m n [] some size long h = sym (append-nil (decimal n))
+decimal-joined m n (b ∷ bs) some size long h =
+    let parts = both (isDigit b) (areDigits bs) h in
+    let edges = digit-edges b (parts .0) in
+    let low : 48 ≤ b = edges .0 in
+    let high : b ≤ 57 = edges .1 in
+    let grown : 10 * n + (b - 48) < 10 ^ suc m = rw (pow-suc 10 m) (omega arith) in
+    let longer : suc m ≤ 19 = omega arith in
+    let power : 10 ^ suc m ≤ 10 ^ 19 = pow-le-pow-right (lit< tt) longer in
+    decimal-joined (suc m) (10 * n + (b - 48)) bs (omega arith) grown (omega arith) (parts .1)
+    ∙ ap (λ (l : List ℕ). l ++ bs) (next-digit n b some low high (omega arith))
+    ∙ append-assoc (decimal n) (b ∷ []) bs
+
+-- Digits without leading zeros are those of their value.
+pub plain-digits :
+    (bs : List ℕ) →
+    leadingZero bs ≡ false →
+    areDigits bs ≡ true →
+    1 ≤ length bs →
+    length bs ≤ digits-most →
+    decimal (valueFrom 0 bs) ≡ bs
+plain-digits [] plain h some few = absurd (omega arith)
+plain-digits (b ∷ []) plain h some few =
+    let edges = digit-edges b (both (isDigit b) true h .0) in
+    let low : 48 ≤ b = edges .0 in
+    let high : b ≤ 57 = edges .1 in
+    decimal-one (10 * 0 + (b - 48)) (omega arith) ∙ ap (λ (d : ℕ). d ∷ []) (omega arith)
+plain-digits (b ∷ c ∷ bs) plain h some few =
+    let parts = both (isDigit b) (areDigits (c ∷ bs)) h in
+    let edges = digit-edges b (parts .0) in
+    let low : 48 ≤ b = edges .0 in
+    let high : b ≤ 57 = edges .1 in
+    let first : ℕ = 10 * 0 + (b - 48) in
+    let above : 0 < first = omega (arith, eqb-false b 48 plain) in
+    decimal-joined 1 first (c ∷ bs) above (omega arith) (omega arith) (parts .1)
+    ∙ ap (λ (l : List ℕ). l ++ (c ∷ bs)) (decimal-one first (omega arith) ∙ ap (λ (d : ℕ). d ∷ []) (omega arith))
 
 -- ---- a number as it is printed
 

@@ -1,4 +1,5 @@
 pub mod Pasting
 pub mod Cutting
+pub mod Sameness
 pub mod Digits
 pub mod Numerals

@@ -1,21 +1,21 @@
 -- What bytes spell: the cases of `unsignedOf` and `numberOf`. What is printed is read back, since it is one to ten digits of that value, and a
--- minus is no digit. Assumes nothing.
+-- minus is no digit; what is read is printed as it stood, where it has no leading zeros. Assumes nothing.
 use mathlib.Core.Path.{_≡_, refl, ap, _∙_}
-use mathlib.Core.Bool.{Bool, true, false, and-false, cond}
+use mathlib.Core.Bool.{Bool, true, false, _&&_, and-false, cond}
 use mathlib.Core.List.{List, [], _∷_}
 use Prim.Native.Nat.{ℕ, suc, _+_, _*_, _-_, _<_, _≤_}
 use native.Mathlib.Omega.{arith}
 use borrow.Author.Tests.{le-leb, lt-leb, ne-eqb, leb-true}
 use lib.Dec.{eqb, leb}
-use lib.IntN.{pos, negsuc}
+use lib.IntN.{ℤ, pos, negsuc}
 use lib.ListN.{length, drop, getD}
 use lib.Seq.{drop-cons}
 use Rattle.integers.specs.Near.{signed}
 use Rattle.integers.proofs.Greatest.{both}
 use Rattle.text.specs.declared.Numeral.the-variants.{Number, Other}
-use Rattle.text.specs.Numbers.{minus, isDigit, areDigits, valueFrom, digits-most, unsignedOf, numberOf, decimal}
-use Rattle.text.specs.Theorems.{PrintedRead}
-use Rattle.text.proofs.Digits.{digit, decimal-length, decimal-some, decimal-digits, decimal-value, text-negative, text-natural}
+use Rattle.text.specs.Numbers.{minus, isDigit, areDigits, valueFrom, digits-most, unsignedOf, numberOf, decimal, numberText}
+use Rattle.text.specs.Theorems.{PrintedRead, ReadPrinted}
+use Rattle.text.proofs.Digits.{digit, decimal-length, decimal-some, decimal-digits, decimal-value, plain-digits, text-negative, text-natural}
 
 -- ---- one digit of many, at index i
 
@@ -103,3 +103,26 @@ printed-read (negsuc n) h =
     ap numberOf (text-negative (negsuc n) refl)
     ∙ number-minus (minus ∷ decimal (suc n)) (omega arith) refl
     ∙ decimal-read true (suc n) h
+
+-- ---- read and printed
+
+-- bytes that are read as a number are one to ten digits of that value
+pub number-read :
+    (negative : Bool) (bs : List ℕ) (z : ℤ) →
+    unsignedOf negative bs ≡ Number z →
+    (areDigits bs ≡ true) × (1 ≤ length bs) × (length bs ≤ digits-most) × (z ≡ signed negative (valueFrom 0 bs))
+unfolding unsignedOf
+number-read negative bs z e =
+    let read = either (areDigits bs && (leb 1 (length bs) && leb (length bs) digits-most)) (signed negative (valueFrom 0 bs)) e in
+    let parts = both (areDigits bs) (leb 1 (length bs) && leb (length bs) digits-most) (read .0) in
+    let lengths = both (leb 1 (length bs)) (leb (length bs) digits-most) (parts .1) in
+    (parts .0, leb-true 1 (length bs) (lengths .0), leb-true (length bs) digits-most (lengths .1), read .1)
+  where
+    either : (t : Bool) (v : ℤ) → cond t (Number v) Other ≡ Number z → (t ≡ true) × (z ≡ v)
+    either true v e = (refl, (cc))
+    either false v e = let n : _≡_ {A = ℕ} 0 1 = cc in absurd (omega arith)
+
+pub read-printed : ReadPrinted
+read-printed bytes z plain e =
+    let read = number-read false bytes z e in
+    ap numberText (read .3) ∙ text-natural (valueFrom 0 bytes) ∙ plain-digits bytes plain (read .0) (read .1) (read .2)

@@ -3,7 +3,7 @@
 use mathlib.Core.Path.{_≡_, sym, ap, ap₂, _∙_}
 use mathlib.Core.List.{List, [], _∷_, _++_, append-assoc}
 use Prim.Native.Nat.{ℕ, _+_, _≤_, _<_}
-use native.Mathlib.Nat.{add-assoc, le-refl}
+use native.Mathlib.Nat.{zero-add, add-assoc, le-refl}
 use native.Mathlib.Numerals.{add-one}
 use native.Mathlib.Omega.{arith}
 use lib.ListN.{length, take, drop, set, length-append}
@@ -14,6 +14,10 @@ use Rattle.text.specs.Pasting.{pasted, Put}
 pub pasted-parts : (xs : List ℕ) (at : ℕ) (ys : List ℕ) → pasted xs at ys ≡ take at xs ++ ys ++ drop (at + length ys) xs
 unfolding pasted
 pasted-parts xs at ys = ap (λ (l : List ℕ). take at xs ++ l ++ drop (at + length ys) xs) (take-length ys)
+
+-- the same from the start
+pub pasted-first : (xs ys : List ℕ) → pasted xs 0 ys ≡ ys ++ drop (length ys) xs
+pasted-first xs ys = pasted-parts xs 0 ys ∙ ap (λ (n : ℕ). ys ++ drop n xs) (zero-add (length ys))
 
 pub length-pasted : (xs : List ℕ) (at : ℕ) (ys : List ℕ) → at + length ys ≤ length xs → length (pasted xs at ys) ≡ length xs
 unfolding pasted

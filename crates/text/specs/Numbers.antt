@@ -36,6 +36,12 @@ valueFrom n (b ∷ bs) = valueFrom (10 * n + (b - byte-0)) bs
 abbrev pub digits-most : ℕ
 digits-most = 10
 
+-- a 0 before other digits
+abbrev pub leadingZero : List ℕ → Bool
+leadingZero [] = false
+leadingZero (b ∷ []) = false
+leadingZero (b ∷ c ∷ bs) = eqb b byte-0
+
 unfoldable pub unsignedOf : Bool → List ℕ → Numeral
 unsignedOf negative bs =
     cond (areDigits bs && (leb 1 (length bs) && leb (length bs) digits-most)) (Number (signed negative (valueFrom 0 bs))) Other
@@ -57,3 +63,10 @@ decimal n = digitsWithin 20 n
 -- a number as it is printed
 unfoldable pub numberText : ℤ → List ℕ
 numberText z = cond (ltZ z (pos 0)) (minus ∷ decimal (natAbs z)) (decimal (natAbs z))
+
+-- a number after its label, and two
+abbrev pub labelled : List ℕ → ℤ → List ℕ
+labelled label z = label ++ numberText z
+
+abbrev pub pairText : List ℕ → ℤ → List ℕ → ℤ → List ℕ
+pairText first x second y = labelled first x ++ labelled second y

@@ -4,17 +4,45 @@ use integers::signed;
 ghost use mathlib.Core.Path.{_≡_};
 ghost use Prim.Native.Nat.{_+_, _≤_};
 ghost use lib.ListN.{length};
-ghost use Rattle.text.specs.Numbers.{unsignedOf, numberOf, decimal, numberText};
+ghost use Rattle.text.specs.Ascii.{sameText};
+ghost use Rattle.text.specs.Numbers.{leadingZero, unsignedOf, numberOf, decimal, numberText, labelled, pairText};
 ghost use Rattle.text.specs.Pasting.{Put};
 
-// What bytes spell: a number of one to ten digits, or something else.
+// What bytes spell: a number, or something else.
 pub enum Numeral {
     Number(i64),
     Other,
 }
 
+// Whether two texts are the same.
+pub fn is_same(text: &[u8], other: &[u8]) -> bool
+    ensures { λ r. ⌜ r ≡ sameText (now (text .entry)) (now (other .entry)) ⌝ }
+{
+    if text.len() != other.len() {
+        return false;
+    }
+    let mut i = 0;
+    while i < text.len() {
+        if text[i] != other[i] {
+            return false;
+        }
+        i += 1;
+    }
+    true
+}
+
 // The most digits that are read; a number of so many fits an i64.
 const DIGITS_MOST: usize = 10;
+
+// Whether a 0 stands before other digits.
+pub fn has_leading_zero(digits: &[u8]) -> bool
+    ensures { λ r. ⌜ r ≡ leadingZero (now (digits .entry)) ⌝ }
+{
+    if digits.len() < 2 {
+        return false;
+    }
+    digits[0] == b'0'
+}
 
 // The number of one to ten digits, with the sign that stood before them.
 pub fn read_unsigned(negative: bool, digits: &[u8]) -> Numeral
@@ -87,4 +115,22 @@ pub fn put_number(out: &mut [u8], at: usize, z: i64) -> usize
         return put_digits(out, at + 1, magnitude(z));
     }
     put_digits(out, at, magnitude(z))
+}
+
+// Writes a label and a number at an index and answers the index after them.
+pub fn put_labelled(out: &mut [u8], at: usize, label: &[u8], z: i64) -> usize
+    requires { ⌜ at + length (labelled (now label) z) ≤ length (now out) ⌝ }
+    ensures { λ r. ⌜ Put (now (out .entry)) at (labelled (now (label .entry)) z) (now (out .exit)) r ⌝ }
+{
+    let after = put_bytes(out, at, label);
+    put_number(out, after, z)
+}
+
+// Writes two numbers, each with its label before it, and answers the index after them.
+pub fn put_pair(out: &mut [u8], at: usize, first: &[u8], x: i64, second: &[u8], y: i64) -> usize
+    requires { ⌜ at + length (pairText (now first) x (now second) y) ≤ length (now out) ⌝ }
+    ensures { λ r. ⌜ Put (now (out .entry)) at (pairText (now (first .entry)) x (now (second .entry)) y) (now (out .exit)) r ⌝ }
+{
+    let after = put_labelled(out, at, first, x);
+    put_labelled(out, after, second, y)
 }

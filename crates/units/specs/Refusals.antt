@@ -1,5 +1,5 @@
--- Document 01, "Refusal numbers", with those of request a) of document 02: the numbers by name, and chains of tests of which the first that fails
--- gives its number.
+-- Document 01, "Refusal numbers", with those of requests a) and c) of document 02: the numbers by name, and chains of tests of which the first that
+-- fails gives its number.
 use Prim.Native.Nat.{ℕ, zero, suc}
 use mathlib.Core.Bool.{Bool, true, false}
 use mathlib.Core.List.{List, [], _∷_}
@@ -44,6 +44,16 @@ bad-false-easting = 15
 
 abbrev pub bad-false-northing : ℕ
 bad-false-northing = 16
+
+-- "31 text not of this form, 32 negative cell number, 33 too little room"
+abbrev pub not-a-code : ℕ
+not-a-code = 31
+
+abbrev pub negative-cell : ℕ
+negative-cell = 32
+
+abbrev pub little-room : ℕ
+little-room = 33
 
 -- where the test fails, the refusal number; else what the next tests say
 abbrev pub unless : Bool → ℕ → ℕ → ℕ

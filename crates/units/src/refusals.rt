@@ -30,6 +30,15 @@ pub const BAD_FALSE_EASTING: u8 = 15;
 
 pub const BAD_FALSE_NORTHING: u8 = 16;
 
+// A text is not the code of a cell.
+pub const NOT_A_CODE: u8 = 31;
+
+// A cell number is negative, so that the cell has no code.
+pub const NEGATIVE_CELL: u8 = 32;
+
+// Fewer bytes are lent than the code has.
+pub const LITTLE_ROOM: u8 = 33;
+
 // A link in a chain of tests: where the test fails its number, else what the next tests say.
 pub fn unless(passed: bool, number: u8, next: u8) -> u8
     ensures { λ r. ⌜ r ≡ unless passed number next ⌝ }

@@ -9,10 +9,11 @@ use mir.Syntax.{w64}
 use mir.Val.{SFits, toZ, ofZ}
 use mir.Facts.{toZ-ofZ, toZ-pos}
 use Rattle.text.specs.Ascii.{ascii}
+use Rattle.text.specs.Numbers.{labelled}
 use Rattle.text.proofs.Pasting.{put-as}
 use Rattle.replies.specs.declared.Reply.{Reply}
 use Rattle.replies.specs.declared.Reply.the-variants.{Plane, Position, Refused}
-use Rattle.replies.specs.Replies.{labelled, replyText}
+use Rattle.replies.specs.Replies.{replyText}
 use borrow.Author.Needs.{needs}
 use Rattle.replies.proofs.put_reply.Statement.{statement}
 use Rattle.replies.proofs.put_reply.Tie as tie

@@ -1,13 +1,13 @@
--- `replies::put_pair` meets its contract: the first number is put with its label, and the second after it. Assumes nothing.
+-- `text::put_pair` meets its contract: the first number is put with its label, and the second after it. Assumes nothing.
 use mathlib.Core.List.{List}
 use Prim.Native.Nat.{ℕ}
 use native.Mathlib.Omega.{arith}
 use mir.Facts.{toZ-ofZ}
-use Rattle.replies.specs.Replies.{labelled}
+use Rattle.text.specs.Numbers.{labelled}
 use Rattle.text.proofs.Pasting.{room-first, room-after, put-both}
 use borrow.Author.Needs.{needs}
-use Rattle.replies.proofs.put_pair.Statement.{statement}
-use Rattle.replies.proofs.put_pair.Tie as tie
+use Rattle.text.proofs.put_pair.Statement.{statement}
+use Rattle.text.proofs.put_pair.Tie as tie
 
 module _ (c : tie.Start) where
   abbrev firstText : List ℕ

@@ -1,11 +1,11 @@
--- `replies::put_labelled` meets its contract: the label is put, and the number's text after it. Assumes nothing.
+-- `text::put_labelled` meets its contract: the label is put, and the number's text after it. Assumes nothing.
 use native.Mathlib.Omega.{arith}
 use mir.Facts.{toZ-ofZ}
 use Rattle.text.specs.Numbers.{numberText}
 use Rattle.text.proofs.Pasting.{room-first, room-after, put-both}
 use borrow.Author.Needs.{needs}
-use Rattle.replies.proofs.put_labelled.Statement.{statement}
-use Rattle.replies.proofs.put_labelled.Tie as tie
+use Rattle.text.proofs.put_labelled.Statement.{statement}
+use Rattle.text.proofs.put_labelled.Tie as tie
 
 put-bytes-requires : tie.Need-put-bytes-requires
 put-bytes-requires c κs =

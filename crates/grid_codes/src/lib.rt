@@ -1,0 +1,167 @@
+// The code of a cell in the INSPIRE geographical grid systems: document 02, c). Sides are in cm.
+use bytes::scan::find;
+use cells::SIDE_1_KM;
+use cells::SIDE_10_KM;
+use cells::SIDE_100_M;
+use cells::are_numbers;
+use cells::is_side;
+use cells::top_number;
+use text::Numeral;
+use text::has_leading_zero;
+use text::is_same;
+use text::put_bytes;
+use text::put_pair;
+use text::read_unsigned;
+use units::both;
+use units::refusals::LITTLE_ROOM;
+use units::refusals::NEGATIVE_CELL;
+use units::refusals::NOT_A_CODE;
+use units::refusals::OUT_OF_LIMITS;
+use units::refusals::unless;
+ghost use mathlib.Core.Path.{_≡_};
+ghost use mathlib.Core.Bool.{true};
+ghost use Prim.Native.Nat.{_≤_};
+ghost use lib.ListN.{length};
+ghost use Rattle.cells.specs.Cells.{accepted-side};
+ghost use Rattle.text.specs.Pasting.{Put};
+ghost use Rattle.grid_codes.specs.Codes.{sideText, codeText, codeRefusal, CodeWritten};
+ghost use Rattle.grid_codes.specs.Codes.{sideNamed, cellNumeral, numbersOf, codeOf};
+
+// How many bytes of the lent ones the code has, or the refusal number alone.
+pub enum WrittenCode {
+    Length(u64),
+    Refused(u8),
+}
+
+// The side and the numbers of the cell, or the refusal number alone.
+pub enum ReadCode {
+    Cell { side: i64, east: i64, north: i64 },
+    Refused(u8),
+}
+
+// No code has more bytes.
+const CODE_MOST: usize = 18;
+
+// The refusal of a cell that has no code; 0 is none.
+fn code_refusal(side: i64, east: i64, north: i64) -> u8
+    ensures { λ r. ⌜ r ≡ codeRefusal side east north ⌝ }
+{
+    if !is_side(side) {
+        return OUT_OF_LIMITS;
+    }
+    let natural = both(0 <= east, 0 <= north);
+    unless(
+        are_numbers(side, east, north),
+        OUT_OF_LIMITS,
+        unless(natural, NEGATIVE_CELL, 0),
+    )
+}
+
+// Writes the text of a side and answers the index after it.
+fn put_side(out: &mut [u8], side: i64) -> usize
+    requires { ⌜ accepted-side side ≡ true ⌝ }
+    requires { ⌜ length (sideText side) ≤ length (now out) ⌝ }
+    ensures { λ r. ⌜ Put (now (out .entry)) 0 (sideText side) (now (out .exit)) r ⌝ }
+{
+    match side {
+        SIDE_100_M => put_bytes(out, 0, b"100m"),
+        SIDE_1_KM => put_bytes(out, 0, b"1km"),
+        _ => put_bytes(out, 0, b"10km"),
+    }
+}
+
+// Writes the code of a cell and answers the index after it.
+fn put_code(out: &mut [u8], side: i64, east: i64, north: i64) -> usize
+    requires { ⌜ accepted-side side ≡ true ⌝ }
+    requires { ⌜ length (codeText side east north) ≤ length (now out) ⌝ }
+    ensures { λ r. ⌜ Put (now (out .entry)) 0 (codeText side east north) (now (out .exit)) r ⌝ }
+{
+    let after = put_side(out, side);
+    put_pair(out, after, b"N", north, b"E", east)
+}
+
+// Any side, any numbers, any bytes: the customer's call that writes a cell's code. The code is made in a place of
+// its own, so that nothing is written where the lent bytes are too few.
+pub fn write_code(side: i64, east: i64, north: i64, out: &mut [u8]) -> WrittenCode
+    ensures { λ r. ⌜ CodeWritten side east north (now (out .entry)) (now (out .exit)) r ⌝ }
+{
+    let refusal = code_refusal(side, east, north);
+    if refusal != 0 {
+        return WrittenCode::Refused(refusal);
+    }
+    let mut code = [0; CODE_MOST];
+    let length = put_code(&mut code, side, east, north);
+    if out.len() < length {
+        return WrittenCode::Refused(LITTLE_ROOM);
+    }
+    put_bytes(out, 0, &code[..length]);
+    WrittenCode::Length(length as u64)
+}
+
+// The side that a text names.
+fn side_named(text: &[u8]) -> Numeral
+    ensures { λ r. ⌜ r ≡ sideNamed (now (text .entry)) ⌝ }
+{
+    if is_same(text, b"100m") {
+        return Numeral::Number(SIDE_100_M);
+    }
+    if is_same(text, b"1km") {
+        return Numeral::Number(SIDE_1_KM);
+    }
+    if is_same(text, b"10km") {
+        return Numeral::Number(SIDE_10_KM);
+    }
+    Numeral::Other
+}
+
+// The number of a cell along an axis, from its digits.
+fn read_cell_number(side: i64, digits: &[u8]) -> Numeral
+    requires { ⌜ accepted-side side ≡ true ⌝ }
+    ensures { λ r. ⌜ r ≡ cellNumeral side (now (digits .entry)) ⌝ }
+{
+    if has_leading_zero(digits) {
+        return Numeral::Other;
+    }
+    let Numeral::Number(number) = read_unsigned(false, digits) else {
+        return Numeral::Other;
+    };
+    if top_number(side) < number {
+        return Numeral::Other;
+    }
+    Numeral::Number(number)
+}
+
+// The cell of a side and of the text after its N.
+fn read_numbers(side: i64, text: &[u8]) -> ReadCode
+    requires { ⌜ accepted-side side ≡ true ⌝ }
+    ensures { λ r. ⌜ r ≡ numbersOf side (now (text .entry)) ⌝ }
+{
+    let end = find(text, 0, text.len(), b'E');
+    if end == text.len() {
+        return ReadCode::Refused(NOT_A_CODE);
+    }
+    let Numeral::Number(north) = read_cell_number(side, &text[..end]) else {
+        return ReadCode::Refused(NOT_A_CODE);
+    };
+    let Numeral::Number(east) = read_cell_number(side, &text[end + 1..]) else {
+        return ReadCode::Refused(NOT_A_CODE);
+    };
+    ReadCode::Cell { side, east, north }
+}
+
+// Any bytes: the customer's call that reads a cell's code. No more bytes are looked at than a code may have.
+pub fn read_code(text: &[u8]) -> ReadCode
+    ensures { λ r. ⌜ r ≡ codeOf (now (text .entry)) ⌝ }
+{
+    if CODE_MOST < text.len() {
+        return ReadCode::Refused(NOT_A_CODE);
+    }
+    let end = find(text, 0, text.len(), b'N');
+    if end == text.len() {
+        return ReadCode::Refused(NOT_A_CODE);
+    }
+    let Numeral::Number(side) = side_named(&text[..end]) else {
+        return ReadCode::Refused(NOT_A_CODE);
+    };
+    read_numbers(side, &text[end + 1..])
+}
