@@ -8,6 +8,10 @@ use lib.Ieee.{Float}
 use Rattle.units.specs.declared.answers.Told.{Told}
 use Rattle.units.specs.Answers.{written}
 use Rattle.pairs.specs.declared.Row.{Row}
+use Rattle.grid_codes.specs.declared.WrittenCode.{WrittenCode}
+use Rattle.grid_codes.specs.declared.WrittenCode.the-variants.{Length, Refused as Unwritten}
+use Rattle.grid_codes.specs.declared.ReadCode.{ReadCode}
+use Rattle.grid_codes.specs.declared.ReadCode.the-variants.{Cell, Refused as Unread}
 use Rattle.point_lists.specs.declared.ListAnswer.{ListAnswer}
 use Rattle.point_lists.specs.declared.ListAnswer.the-variants.{Count, Refused}
 
@@ -28,3 +32,13 @@ AnswersWhole answer = Answered (answer .refusal) (answer .first) (answer .second
 abbrev pub countAfter : ListAnswer → ℕ → ℕ
 countAfter (Count count) before = count
 countAfter (Refused number) before = before
+
+-- the length after a call that writes a code: the answer's, or what it was
+abbrev pub lengthAfter : WrittenCode → ℕ → ℕ
+lengthAfter (Length bytes) before = bytes
+lengthAfter (Unwritten number) before = before
+
+-- what a call that reads a code leaves: side, east number and north number, or what was there
+abbrev pub cellAfter : ReadCode → List ℤ → List ℤ
+cellAfter (Cell side east north) before = side ∷ east ∷ north ∷ []
+cellAfter (Unread number) before = before

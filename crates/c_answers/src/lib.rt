@@ -1,10 +1,13 @@
 // What a call for C writes and returns, from what the library's answer tells.
+use grid_codes::ReadCode;
+use grid_codes::WrittenCode;
 use pairs::Row;
 use point_lists::ListAnswer;
 use units::answers::Told;
 ghost use mathlib.Core.Path.{_≡_};
+ghost use Rattle.grid_codes.specs.Codes.{written-told, read-told};
 ghost use Rattle.point_lists.specs.Lists.{list-told};
-ghost use Rattle.c_answers.specs.Answers.{AnswersFloats, AnswersWhole, countAfter};
+ghost use Rattle.c_answers.specs.Answers.{AnswersFloats, AnswersWhole, countAfter, lengthAfter, cellAfter};
 
 // Writes the two values where the refusal number is 0, and only there. Returns the number.
 pub fn answer_floats(row: Row, out: &mut [f64; 2]) -> u8
@@ -37,5 +40,33 @@ pub fn answer_list(answer: ListAnswer, count: &mut u64) -> u8
             0
         }
         ListAnswer::Refused(number) => number,
+    }
+}
+
+// Writes a code's length where it is written, and only there. Returns the refusal number; 0 is none.
+pub fn answer_written(answer: WrittenCode, length: &mut u64) -> u8
+    ensures { λ r. ⌜ r ≡ written-told answer .refusal ⌝ }
+    ensures { λ _. ⌜ now (length .exit) ≡ lengthAfter answer (now (length .entry)) ⌝ }
+{
+    match answer {
+        WrittenCode::Length(bytes) => {
+            *length = bytes;
+            0
+        }
+        WrittenCode::Refused(number) => number,
+    }
+}
+
+// Writes the side and the numbers of a cell where its code is read, and only there. Returns the refusal number; 0 is none.
+pub fn answer_read(answer: ReadCode, out: &mut [i64; 3]) -> u8
+    ensures { λ r. ⌜ r ≡ read-told answer .refusal ⌝ }
+    ensures { λ _. ⌜ now (out .exit) ≡ cellAfter answer (now (out .entry)) ⌝ }
+{
+    match answer {
+        ReadCode::Cell { side, east, north } => {
+            *out = [side, east, north];
+            0
+        }
+        ReadCode::Refused(number) => number,
     }
 }

@@ -1,9 +1,13 @@
--- The set as C has it, and what a list call for C returns and writes, over the definitions of the crates that they call.
+-- The set as C has it, and what calls for C on lists and codes return and write, over the definitions of the crates that they call.
 -- A lent list is the list of its values.
 use Prim.Native.Nat.{ℕ}
 use mathlib.Core.Path.{_≡_}
-use mathlib.Core.List.{List}
+use mathlib.Core.List.{List, [], _∷_}
+use lib.IntN.{ℤ}
+use lib.ListN.{length}
 use lib.Ieee.{Float}
+use Rattle.units.specs.Answers.{answered, written}
+use Rattle.grid_codes.specs.Codes.{codeText, writeRefusal, intoFirst, CodeTold}
 use Rattle.parameters.specs.declared.Parameters.{Parameters}
 use Rattle.parameters.specs.ParameterSet.{setOf}
 use Rattle.pairs.specs.declared.Row.{Row}
@@ -12,9 +16,9 @@ use Rattle.point_lists.specs.Lists.{listRefusal, listAnswer, ListCall}
 use Rattle.c_answers.specs.Answers.{countAfter}
 use Rattle.laea_c.specs.declared.sets.Set.{Set}
 
--- the version 0.4.0: 10,000 times the major number, 100 times the minor one, and the patch
+-- the version 0.5.0: 10,000 times the major number, 100 times the minor one, and the patch
 abbrev pub version : ℕ
-version = 400
+version = 500
 
 -- the parameter set of these fields
 abbrev pub parametersOf : Set → Parameters
@@ -27,3 +31,15 @@ pub record ListAnswered (p : Parameters) (row : Parameters → Float → Float �
   pub result-is : r ≡ listRefusal p xs ys first second mark
   pub lists-are : ListCall p (row p) xs ys first first′ second second′ mark mark′ (listAnswer r (zeros mark′))
   pub count-is : count′ ≡ countAfter (listAnswer r (zeros mark′)) count
+
+-- A call that writes the code of a cell: the result is its refusal number; where that is 0 the code stands in the first bytes of the text, the rest
+-- staying, and the length is the code's; else both are as they were.
+pub record CodeAnswered (side east north : ℤ) (text text′ : List ℕ) (before after r : ℕ) : Type 0 where
+  pub result-is : r ≡ writeRefusal side east north (length text)
+  pub text-is : text′ ≡ written r (intoFirst (codeText side east north) text) text
+  pub length-is : after ≡ answered (λ (n : ℕ). before) r (length (codeText side east north))
+
+-- A call that reads a code: the result is its refusal number; `out` has side, east number and north number where that is 0, else what it had.
+pub record CellAnswered (told : CodeTold) (out out′ : List ℤ) (r : ℕ) : Type 0 where
+  pub result-is : r ≡ told .refusal
+  pub out-is : out′ ≡ written r (told .side ∷ told .east ∷ told .north ∷ []) out
