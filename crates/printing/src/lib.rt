@@ -11,7 +11,7 @@ ghost use Rattle.bytes.specs.Bytes.{indexOf};
 ghost use Rattle.text.specs.Ascii.{newline};
 ghost use Rattle.printing.specs.Texts.{fromLine, lineOf};
 
-fn text(bytes: &[u8]) {
+pub fn text(bytes: &[u8]) {
     io::write_all(STDOUT_FILENO, bytes);
 }
 
