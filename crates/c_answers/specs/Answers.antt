@@ -10,8 +10,8 @@ use Rattle.units.specs.Answers.{written}
 use Rattle.pairs.specs.declared.Row.{Row}
 use Rattle.grid_codes.specs.declared.WrittenCode.{WrittenCode}
 use Rattle.grid_codes.specs.declared.WrittenCode.the-variants.{Length, Refused as Unwritten}
-use Rattle.grid_codes.specs.declared.ReadCode.{ReadCode}
-use Rattle.grid_codes.specs.declared.ReadCode.the-variants.{Cell, Refused as Unread}
+use Rattle.code_reading.specs.declared.ReadCode.{ReadCode}
+use Rattle.code_reading.specs.declared.ReadCode.the-variants.{Cell, Refused as Unread}
 use Rattle.point_lists.specs.declared.ListAnswer.{ListAnswer}
 use Rattle.point_lists.specs.declared.ListAnswer.the-variants.{Count, Refused}
 

@@ -1,11 +1,12 @@
 // What a call for C writes and returns, from what the library's answer tells.
-use grid_codes::ReadCode;
+use code_reading::ReadCode;
 use grid_codes::WrittenCode;
 use pairs::Row;
 use point_lists::ListAnswer;
 use units::answers::Told;
 ghost use mathlib.Core.Path.{_≡_};
-ghost use Rattle.grid_codes.specs.Codes.{written-told, read-told};
+ghost use Rattle.grid_codes.specs.Codes.{written-told};
+ghost use Rattle.code_reading.specs.Reading.{read-told};
 ghost use Rattle.point_lists.specs.Lists.{list-told};
 ghost use Rattle.c_answers.specs.Answers.{AnswersFloats, AnswersWhole, countAfter, lengthAfter, cellAfter};
 

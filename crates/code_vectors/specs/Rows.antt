@@ -9,8 +9,8 @@ use lib.ListN.{replicate}
 use Rattle.units.specs.Spans.{same}
 use Rattle.units.specs.Answers.{written}
 use Rattle.text.specs.Ascii.{sameText}
-use Rattle.grid_codes.specs.declared.ReadCode.{ReadCode}
-use Rattle.grid_codes.specs.declared.ReadCode.the-variants.{Cell, Refused as Unread}
+use Rattle.code_reading.specs.declared.ReadCode.{ReadCode}
+use Rattle.code_reading.specs.declared.ReadCode.the-variants.{Cell, Refused as Unread}
 use Rattle.grid_codes.specs.Codes.{codeText, writeRefusal, intoFirst}
 
 -- the bytes lent for writing: twenty full stops, so that the rest is seen to stay

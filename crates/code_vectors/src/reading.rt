@@ -2,8 +2,8 @@
 use cells::SIDE_1_KM;
 use cells::SIDE_10_KM;
 use cells::SIDE_100_M;
-use grid_codes::ReadCode;
-use grid_codes::read_code;
+use code_reading::ReadCode;
+use code_reading::read_code;
 use printing::number;
 use printing::refusal;
 use printing::text;
@@ -12,7 +12,7 @@ use units::both;
 use units::is_within;
 use units::refusals::NOT_A_CODE;
 ghost use mathlib.Core.Path.{_≡_};
-ghost use Rattle.grid_codes.specs.Codes.{codeOf};
+ghost use Rattle.code_reading.specs.Reading.{codeOf};
 ghost use Rattle.code_vectors.specs.Rows.{isCell, isUnread};
 
 fn is_cell(answer: ReadCode, side: i64, east: i64, north: i64) -> bool

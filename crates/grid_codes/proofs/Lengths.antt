@@ -1,7 +1,6 @@
 -- How long codes are: a number up to the top one has no more digits than that. Assumes nothing.
 use mathlib.Core.Path.{_≡_, refl, subst}
 use mathlib.Core.Bool.{true}
-use mathlib.Core.List.{_∷_, _++_}
 use Prim.Native.Nat.{ℕ, suc, _+_, _*_, _^_, _≤_, _<_}
 use native.Mathlib.Nat.{le-trans}
 use native.Mathlib.Omega.{arith}
@@ -11,9 +10,10 @@ use lib.ListN.{length, length-append}
 use Rattle.units.specs.Spans.{within, same}
 use Rattle.cells.specs.Cells.{accepted-side, top}
 use Rattle.cells.proofs.Sides.{of-each-side}
-use Rattle.text.specs.Numbers.{decimal, numberText}
+use Rattle.text.specs.Ascii.{ascii}
+use Rattle.text.specs.Numbers.{decimal, numberText, labelled, pairText}
 use Rattle.text.proofs.Digits.{decimal-length, text-natural}
-use Rattle.grid_codes.specs.Codes.{sideText, codeText, byte-N, byte-E}
+use Rattle.grid_codes.specs.Codes.{sideText, codeText}
 use Rattle.grid_codes.specs.Theorems.{LongestCode, LongestLengths}
 use Rattle.grid_codes.proofs.CellLaws.{HasCode, has-code, coded}
 
@@ -25,9 +25,11 @@ code-size :
     length (codeText side (pos e) (pos n)) ≤ length (sideText side) + (2 + 2 * suc m)
 unfolding codeText
 code-size m side e n few-e few-n =
-    let joined = length-append (sideText side) (byte-N ∷ decimal n ++ byte-E ∷ decimal e) in
-    let numbers = length-append (decimal n) (byte-E ∷ decimal e) in
-    rw (text-natural e, text-natural n) (omega (arith, joined, numbers, decimal-length m e few-e, decimal-length m n few-n))
+    let joined = length-append (sideText side) (pairText (ascii "N") (pos n) (ascii "E") (pos e)) in
+    let numbers = length-append (labelled (ascii "N") (pos n)) (labelled (ascii "E") (pos e)) in
+    let of-e : length (numberText (pos e)) ≤ suc m = rw (text-natural e) (decimal-length m e few-e) in
+    let of-n : length (numberText (pos n)) ≤ suc m = rw (text-natural n) (decimal-length m n few-n) in
+    omega (arith, joined, numbers)
 
 abbrev Longest : ℤ → Type 0
 Longest side =

@@ -1,21 +1,13 @@
-// The code of a cell in the INSPIRE geographical grid systems: document 02, c). Sides are in cm.
-use bytes::scan::find;
+// Writes the code of a cell in the INSPIRE geographical grid systems: document 02, c). Sides are in cm.
 use cells::SIDE_1_KM;
-use cells::SIDE_10_KM;
 use cells::SIDE_100_M;
 use cells::are_numbers;
 use cells::is_side;
-use cells::top_number;
-use text::Numeral;
-use text::has_leading_zero;
-use text::is_same;
 use text::put_bytes;
 use text::put_pair;
-use text::read_unsigned;
 use units::both;
 use units::refusals::LITTLE_ROOM;
 use units::refusals::NEGATIVE_CELL;
-use units::refusals::NOT_A_CODE;
 use units::refusals::OUT_OF_LIMITS;
 use units::refusals::unless;
 ghost use mathlib.Core.Path.{_≡_};
@@ -25,7 +17,6 @@ ghost use lib.ListN.{length};
 ghost use Rattle.cells.specs.Cells.{accepted-side};
 ghost use Rattle.text.specs.Pasting.{Put};
 ghost use Rattle.grid_codes.specs.Codes.{sideText, codeText, codeRefusal, CodeWritten};
-ghost use Rattle.grid_codes.specs.Codes.{sideNamed, cellNumeral, numbersOf, codeOf};
 
 // How many bytes of the lent ones the code has, or the refusal number alone.
 pub enum WrittenCode {
@@ -33,14 +24,8 @@ pub enum WrittenCode {
     Refused(u8),
 }
 
-// The side and the numbers of the cell, or the refusal number alone.
-pub enum ReadCode {
-    Cell { side: i64, east: i64, north: i64 },
-    Refused(u8),
-}
-
 // No code has more bytes.
-const CODE_MOST: usize = 18;
+pub const CODE_MOST: usize = 18;
 
 // The refusal of a cell that has no code; 0 is none.
 fn code_refusal(side: i64, east: i64, north: i64) -> u8
@@ -96,72 +81,4 @@ pub fn write_code(side: i64, east: i64, north: i64, out: &mut [u8]) -> WrittenCo
     }
     put_bytes(out, 0, &code[..length]);
     WrittenCode::Length(length as u64)
-}
-
-// The side that a text names.
-fn side_named(text: &[u8]) -> Numeral
-    ensures { λ r. ⌜ r ≡ sideNamed (now (text .entry)) ⌝ }
-{
-    if is_same(text, b"100m") {
-        return Numeral::Number(SIDE_100_M);
-    }
-    if is_same(text, b"1km") {
-        return Numeral::Number(SIDE_1_KM);
-    }
-    if is_same(text, b"10km") {
-        return Numeral::Number(SIDE_10_KM);
-    }
-    Numeral::Other
-}
-
-// The number of a cell along an axis, from its digits.
-fn read_cell_number(side: i64, digits: &[u8]) -> Numeral
-    requires { ⌜ accepted-side side ≡ true ⌝ }
-    ensures { λ r. ⌜ r ≡ cellNumeral side (now (digits .entry)) ⌝ }
-{
-    if has_leading_zero(digits) {
-        return Numeral::Other;
-    }
-    let Numeral::Number(number) = read_unsigned(false, digits) else {
-        return Numeral::Other;
-    };
-    if top_number(side) < number {
-        return Numeral::Other;
-    }
-    Numeral::Number(number)
-}
-
-// The cell of a side and of the text after its N.
-fn read_numbers(side: i64, text: &[u8]) -> ReadCode
-    requires { ⌜ accepted-side side ≡ true ⌝ }
-    ensures { λ r. ⌜ r ≡ numbersOf side (now (text .entry)) ⌝ }
-{
-    let end = find(text, 0, text.len(), b'E');
-    if end == text.len() {
-        return ReadCode::Refused(NOT_A_CODE);
-    }
-    let Numeral::Number(north) = read_cell_number(side, &text[..end]) else {
-        return ReadCode::Refused(NOT_A_CODE);
-    };
-    let Numeral::Number(east) = read_cell_number(side, &text[end + 1..]) else {
-        return ReadCode::Refused(NOT_A_CODE);
-    };
-    ReadCode::Cell { side, east, north }
-}
-
-// Any bytes: the customer's call that reads a cell's code. No more bytes are looked at than a code may have.
-pub fn read_code(text: &[u8]) -> ReadCode
-    ensures { λ r. ⌜ r ≡ codeOf (now (text .entry)) ⌝ }
-{
-    if CODE_MOST < text.len() {
-        return ReadCode::Refused(NOT_A_CODE);
-    }
-    let end = find(text, 0, text.len(), b'N');
-    if end == text.len() {
-        return ReadCode::Refused(NOT_A_CODE);
-    }
-    let Numeral::Number(side) = side_named(&text[..end]) else {
-        return ReadCode::Refused(NOT_A_CODE);
-    };
-    read_numbers(side, &text[end + 1..])
 }

@@ -10,10 +10,11 @@ use Rattle.units.specs.Refusals.{not-a-code}
 use Rattle.units.specs.Answers.{answered, written, Counted}
 use Rattle.grid_codes.specs.declared.WrittenCode.{WrittenCode}
 use Rattle.grid_codes.specs.declared.WrittenCode.the-variants.{Length, Refused as Unwritten}
-use Rattle.grid_codes.specs.declared.ReadCode.{ReadCode}
-use Rattle.grid_codes.specs.declared.ReadCode.the-variants.{Cell, Refused as Unread}
-use Rattle.grid_codes.specs.Codes.{codeText, writeRefusal, intoFirst, written-told, CodeWritten, codeOf, CodeTold, read-told}
-use Rattle.grid_codes.proofs.AnswerLaws.{read-numbers}
+use Rattle.code_reading.specs.declared.ReadCode.{ReadCode}
+use Rattle.code_reading.specs.declared.ReadCode.the-variants.{Cell, Refused as Unread}
+use Rattle.grid_codes.specs.Codes.{codeText, writeRefusal, intoFirst, written-told, CodeWritten}
+use Rattle.code_reading.specs.Reading.{codeOf, CodeTold, read-told}
+use Rattle.code_reading.proofs.AnswerLaws.{read-numbers}
 use Rattle.parameters.specs.declared.Parameters.{Parameters}
 use Rattle.pairs.specs.declared.Row.{Row}
 use Rattle.point_lists.specs.declared.ListAnswer.{ListAnswer}

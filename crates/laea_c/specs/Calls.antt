@@ -7,7 +7,8 @@ use lib.IntN.{ℤ}
 use lib.ListN.{length}
 use lib.Ieee.{Float}
 use Rattle.units.specs.Answers.{answered, written}
-use Rattle.grid_codes.specs.Codes.{codeText, writeRefusal, intoFirst, CodeTold}
+use Rattle.grid_codes.specs.Codes.{codeText, writeRefusal, intoFirst}
+use Rattle.code_reading.specs.Reading.{CodeTold}
 use Rattle.parameters.specs.declared.Parameters.{Parameters}
 use Rattle.parameters.specs.ParameterSet.{setOf}
 use Rattle.pairs.specs.declared.Row.{Row}

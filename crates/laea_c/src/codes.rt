@@ -1,9 +1,9 @@
 // The code of a cell, written and read.
 use c_answers::answer_read;
 use c_answers::answer_written;
-use grid_codes::read_code;
+use code_reading::read_code;
 use grid_codes::write_code;
-ghost use Rattle.grid_codes.specs.Codes.{read-told, codeOf};
+ghost use Rattle.code_reading.specs.Reading.{read-told, codeOf};
 ghost use Rattle.laea_c.specs.Calls.{CodeAnswered, CellAnswered};
 
 // Writes the code of a cell into the first bytes of the text.

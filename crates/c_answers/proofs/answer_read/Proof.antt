@@ -2,8 +2,8 @@
 use mathlib.Core.Path.{sym, ap}
 use mir.Syntax.{w64}
 use mir.Facts.{toZ-ofZ}
-use Rattle.grid_codes.specs.declared.ReadCode.{ReadCode}
-use Rattle.grid_codes.specs.Codes.{read-told}
+use Rattle.code_reading.specs.declared.ReadCode.{ReadCode}
+use Rattle.code_reading.specs.Reading.{read-told}
 use Rattle.c_answers.specs.Answers.{cellAfter}
 use borrow.Author.Needs.{needs}
 use Rattle.c_answers.proofs.answer_read.Statement.{statement}

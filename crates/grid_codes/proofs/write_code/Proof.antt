@@ -13,7 +13,7 @@ use Rattle.text.proofs.Pasting.{pasted-first, take-pasted}
 use Rattle.grid_codes.specs.Codes.{codeText, codeRefusal}
 use Rattle.grid_codes.proofs.CellLaws.{HasCode, has-code}
 use Rattle.grid_codes.proofs.Lengths.{code-most}
-use Rattle.grid_codes.proofs.AnswerLaws.{refused-first, no-room, enough-room, code-unwritten, code-written}
+use Rattle.grid_codes.proofs.WritingLaws.{refused-first, no-room, enough-room, code-unwritten, code-written}
 use borrow.Author.Needs.{needs}
 use Rattle.grid_codes.proofs.write_code.Statement.{statement}
 use Rattle.grid_codes.proofs.write_code.Tie as tie

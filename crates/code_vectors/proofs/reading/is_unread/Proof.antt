@@ -1,7 +1,7 @@
 -- `reading::is_unread` meets its contract: a refusal's number is compared, and a cell is no refusal. Assumes nothing.
 use mathlib.Core.Path.{sym, ap}
 use borrow.Author.Needs.{needs}
-use Rattle.grid_codes.specs.declared.ReadCode.{ReadCode}
+use Rattle.code_reading.specs.declared.ReadCode.{ReadCode}
 use Rattle.code_vectors.specs.Rows.{isUnread}
 use Rattle.code_vectors.proofs.reading.is_unread.Statement.{statement}
 use Rattle.code_vectors.proofs.reading.is_unread.Tie as tie

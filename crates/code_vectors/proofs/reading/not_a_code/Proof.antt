@@ -1,7 +1,7 @@
 -- `reading::not_a_code` meets its contract: what is given back is the verdict on what the text is read as. Assumes nothing.
 use mathlib.Core.Path.{ap, _∙_}
 use borrow.Author.Needs.{needs}
-use Rattle.grid_codes.specs.declared.ReadCode.{ReadCode}
+use Rattle.code_reading.specs.declared.ReadCode.{ReadCode}
 use Rattle.code_vectors.specs.Rows.{isUnread}
 use Rattle.code_vectors.proofs.reading.not_a_code.Statement.{statement}
 use Rattle.code_vectors.proofs.reading.not_a_code.Tie as tie

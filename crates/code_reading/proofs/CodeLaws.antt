@@ -21,13 +21,13 @@ use Rattle.text.specs.Cutting.{upTo, after}
 use Rattle.text.proofs.Sameness.{same-is}
 use Rattle.text.proofs.Cutting.{Without, cut-before, cut-after, joined}
 use Rattle.text.proofs.Digits.{decimal-length, text-natural}
-use Rattle.grid_codes.specs.declared.ReadCode.{ReadCode}
-use Rattle.grid_codes.specs.declared.ReadCode.the-variants.{Cell, Refused as Unread}
+use Rattle.code_reading.specs.declared.ReadCode.{ReadCode}
+use Rattle.code_reading.specs.declared.ReadCode.the-variants.{Cell, Refused as Unread}
 use Rattle.grid_codes.specs.Codes.{sideText, codeText, codeRefusal}
-use Rattle.grid_codes.specs.Codes.{byte-N, byte-E, sideNamed, cellNumeral, ofNumbers, numbersOf, ofSide, codeOf}
-use Rattle.grid_codes.specs.Theorems.{OneText, CodeRead, LongestCode, LongestLengths, ReadNumbers}
+use Rattle.code_reading.specs.Reading.{byte-N, byte-E, sideNamed, cellNumeral, ofNumbers, numbersOf, ofSide, codeOf}
+use Rattle.code_reading.specs.Theorems.{OneText, CodeRead}
 use Rattle.grid_codes.proofs.CellLaws.{HasCode, has-code, coded}
-use Rattle.grid_codes.proofs.NumeralLaws.{numeral-of, text-without, ReadAs, numeral-is}
+use Rattle.code_reading.proofs.NumeralLaws.{numeral-of, text-without, ReadAs, numeral-is}
 
 -- ---- the side
 

@@ -15,13 +15,13 @@ use Rattle.cells.specs.Cells.{accepted-side}
 use Rattle.text.specs.declared.Numeral.the-variants.{Number}
 use Rattle.text.specs.Cutting.{upTo, after}
 use Rattle.text.proofs.Cutting.{found, before-cut, after-cut, no-cut}
-use Rattle.grid_codes.specs.Codes.{byte-N, sideNamed, numbersOf}
-use Rattle.grid_codes.proofs.CodeLaws.{side-is}
-use Rattle.grid_codes.proofs.AnswerLaws.{long-unread}
-use Rattle.grid_codes.proofs.ReadingLaws.{unnamed, named-as, code-uncut}
+use Rattle.code_reading.specs.Reading.{byte-N, sideNamed, numbersOf}
+use Rattle.code_reading.proofs.CodeLaws.{side-is}
+use Rattle.code_reading.proofs.AnswerLaws.{long-unread}
+use Rattle.code_reading.proofs.ReadingLaws.{unnamed, named-as, code-uncut}
 use borrow.Author.Needs.{needs}
-use Rattle.grid_codes.proofs.read_code.Statement.{statement}
-use Rattle.grid_codes.proofs.read_code.Tie as tie
+use Rattle.code_reading.proofs.read_code.Statement.{statement}
+use Rattle.code_reading.proofs.read_code.Tie as tie
 
 module _ (c : tie.After-find) where
   abbrev text : List ℕ

@@ -5,10 +5,11 @@ use Prim.Native.Nat.{ℕ}
 use lib.IntN.{pos}
 use Rattle.units.specs.Spans.{within, same}
 use Rattle.text.specs.Ascii.{sameText}
-use Rattle.grid_codes.specs.Codes.{sideText, sideNamed}
+use Rattle.grid_codes.specs.Codes.{sideText}
+use Rattle.code_reading.specs.Reading.{sideNamed}
 use borrow.Author.Needs.{needs}
-use Rattle.grid_codes.proofs.side_named.Statement.{statement}
-use Rattle.grid_codes.proofs.side_named.Tie as tie
+use Rattle.code_reading.proofs.side_named.Statement.{statement}
+use Rattle.code_reading.proofs.side_named.Tie as tie
 
 -- the three comparisons
 first : (c : tie.After-is-same) → c .is-same .result ≡ sameText (c .before .before .before .args .text .now) (sideText (pos 10_000))

@@ -13,10 +13,10 @@ use Rattle.proof_kit.proofs.Range.{returned}
 use Rattle.cells.specs.Cells.{top}
 use Rattle.text.specs.declared.Numeral.the-variants.{Number, Other}
 use Rattle.text.specs.Numbers.{leadingZero, unsignedOf}
-use Rattle.grid_codes.specs.Codes.{cellNumeral}
+use Rattle.code_reading.specs.Reading.{cellNumeral}
 use borrow.Author.Needs.{needs}
-use Rattle.grid_codes.proofs.read_cell_number.Statement.{statement}
-use Rattle.grid_codes.proofs.read_cell_number.Tie as tie
+use Rattle.code_reading.proofs.read_cell_number.Statement.{statement}
+use Rattle.code_reading.proofs.read_cell_number.Tie as tie
 
 module _ (side : ℤ) (bs : List ℕ) where
   led : leadingZero bs ≡ true → cellNumeral side bs ≡ Other

@@ -13,12 +13,12 @@ use Rattle.text.specs.declared.Numeral.{Numeral}
 use Rattle.text.specs.declared.Numeral.the-variants.{Number}
 use Rattle.text.specs.Cutting.{upTo, after}
 use Rattle.text.proofs.Cutting.{found, before-cut, after-cut, no-cut}
-use Rattle.grid_codes.specs.declared.ReadCode.the-variants.{Cell}
-use Rattle.grid_codes.specs.Codes.{byte-E, cellNumeral}
-use Rattle.grid_codes.proofs.ReadingLaws.{numbers-uncut, north-none, east-none, both-numbers}
+use Rattle.code_reading.specs.declared.ReadCode.the-variants.{Cell}
+use Rattle.code_reading.specs.Reading.{byte-E, cellNumeral}
+use Rattle.code_reading.proofs.ReadingLaws.{numbers-uncut, north-none, east-none, both-numbers}
 use borrow.Author.Needs.{needs}
-use Rattle.grid_codes.proofs.read_numbers.Statement.{statement}
-use Rattle.grid_codes.proofs.read_numbers.Tie as tie
+use Rattle.code_reading.proofs.read_numbers.Statement.{statement}
+use Rattle.code_reading.proofs.read_numbers.Tie as tie
 
 module _ (c : tie.After-find) where
   abbrev side : ℤ

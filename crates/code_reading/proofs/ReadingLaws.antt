@@ -10,8 +10,8 @@ use Rattle.text.specs.declared.Numeral.{Numeral}
 use Rattle.text.specs.declared.Numeral.the-variants.{Number, Other}
 use Rattle.text.specs.Numbers.{unsignedOf}
 use Rattle.text.specs.Cutting.{upTo, after}
-use Rattle.grid_codes.specs.declared.ReadCode.the-variants.{Cell, Refused as Unread}
-use Rattle.grid_codes.specs.Codes.{byte-N, byte-E, sideNamed, cellNumeral, ofNumbers, numbersOf, ofSide, codeOf}
+use Rattle.code_reading.specs.declared.ReadCode.the-variants.{Cell, Refused as Unread}
+use Rattle.code_reading.specs.Reading.{byte-N, byte-E, sideNamed, cellNumeral, ofNumbers, numbersOf, ofSide, codeOf}
 
 nothing-read : (side : ℤ) → cellNumeral side [] ≡ Other
 unfolding cellNumeral unsignedOf

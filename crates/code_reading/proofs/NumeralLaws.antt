@@ -18,7 +18,7 @@ use Rattle.text.specs.Numbers.{isDigit, areDigits, valueFrom, leadingZero, unsi
 use Rattle.text.proofs.Cutting.{Without, without-more}
 use Rattle.text.proofs.Digits.{decimal-plain, decimal-digits, text-natural}
 use Rattle.text.proofs.Numerals.{decimal-read, number-read, read-printed}
-use Rattle.grid_codes.specs.Codes.{byte-E, capped, cellNumeral}
+use Rattle.code_reading.specs.Reading.{byte-E, capped, cellNumeral}
 
 -- ---- a number that is printed
 

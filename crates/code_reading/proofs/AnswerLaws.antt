@@ -1,0 +1,75 @@
+-- What the calls' answers say: a written code is read back, a read text is what would be written, and 31 alone refuses. Assumes nothing.
+use mathlib.Core.Path.{_≡_, refl, ap, ap₂, _∙_}
+use mathlib.Core.List.{List}
+use Prim.Native.Nat.{ℕ, zero, suc, _<_}
+use native.Mathlib.Omega.{arith}
+use borrow.Author.Tests.{le-leb}
+use lib.Dec.{leb}
+use lib.IntN.{ℤ}
+use lib.ListN.{length, take, drop}
+use lib.Seq.{take-append-seam}
+use Rattle.units.specs.Refusals.{not-a-code, little-room, unless}
+use Rattle.units.specs.Answers.{answered, written}
+use Rattle.units.proofs.Chains.{both-passed}
+use Rattle.text.specs.declared.Numeral.{Numeral}
+use Rattle.text.specs.declared.Numeral.the-variants.{Number, Other}
+use Rattle.text.specs.Cutting.{upTo, after}
+use Rattle.grid_codes.specs.declared.WrittenCode.the-variants.{Length, Refused as Unwritten}
+use Rattle.grid_codes.specs.Codes.{codeText, codeRefusal, writeRefusal, intoFirst}
+use Rattle.grid_codes.proofs.CellLaws.{coded}
+use Rattle.grid_codes.proofs.Lengths.{code-most}
+use Rattle.code_reading.specs.declared.ReadCode.{ReadCode}
+use Rattle.code_reading.specs.declared.ReadCode.the-variants.{Cell, Refused as Unread}
+use Rattle.code_reading.specs.Reading.{byte-N, byte-E, sideNamed, cellNumeral, ofNumbers, numbersOf, ofSide, codeOf}
+use Rattle.code_reading.specs.Theorems.{WrittenRead, ReadWritten, ReadNumbers}
+use Rattle.code_reading.proofs.CodeLaws.{code-read, is-code}
+
+-- ---- written and read
+
+-- an answer with a length has no refusal
+length-answered : (m n len : ℕ) → Length n ≡ answered Unwritten m (Length len) → (m ≡ 0) × (n ≡ len)
+length-answered zero n len e = (refl, (cc))
+length-answered (suc m) n len e = let z : _≡_ {A = ℕ} 0 1 = cc in absurd (omega arith)
+
+pub written-read : WrittenRead
+unfolding writeRefusal
+written-read side east north bytes bytes′ n call =
+    let text = codeText side east north in
+    let refusal = writeRefusal side east north (length bytes) in
+    let given = length-answered refusal n (length text) (call .answer-is) in
+    let none = both-passed (codeRefusal side east north) (unless (leb (length text) (length bytes)) little-room 0) (given .0) in
+    let bytes-are = call .bytes-are ∙ ap (λ (r : ℕ). written r (intoFirst text bytes) bytes) (given .0) in
+    ap codeOf (ap₂ take (given .1) bytes-are ∙ take-append-seam text (drop (length text) bytes)) ∙ code-read side east north (none .0)
+
+pub read-written : ReadWritten
+unfolding writeRefusal
+read-written text side east north e =
+    let is = is-code text side east north e in
+    (is .is-text, λ room h. rw (coded side east north (is .cell), ap length (is .is-text), le-leb (length text) room h))
+
+-- ---- the number
+
+numbers-unread : (side : ℤ) (x y : Numeral) {n : ℕ} → ofNumbers side x y ≡ Unread n → n ≡ not-a-code
+numbers-unread side (Number x) (Number y) e = let z : _≡_ {A = ℕ} 0 1 = cc in absurd (omega arith)
+numbers-unread side (Number x) Other e = cc
+numbers-unread side Other y e = cc
+
+side-unread : (m : Numeral) (text : List ℕ) {n : ℕ} → ofSide m text ≡ Unread n → n ≡ not-a-code
+unfolding numbersOf
+side-unread (Number side) text e = numbers-unread side (cellNumeral side (after byte-E text)) (cellNumeral side (upTo byte-E text)) e
+side-unread Other text e = cc
+
+pub read-numbers : ReadNumbers
+unfolding codeOf
+read-numbers text n e = side-unread (sideNamed (upTo byte-N text)) (after byte-N text) e
+
+-- A text that is longer than every code is none.
+pub long-unread : (text : List ℕ) → 18 < length text → codeOf text ≡ Unread not-a-code
+long-unread text long = by-answer (codeOf text) refl
+  where
+    by-answer : (answer : ReadCode) → codeOf text ≡ answer → codeOf text ≡ Unread not-a-code
+    by-answer (Cell side east north) e =
+        let is = is-code text side east north e in
+        let short = code-most side east north (is .cell) in
+        absurd (omega (arith, ap length (is .is-text)))
+    by-answer (Unread n) e = e ∙ ap Unread (read-numbers text n e)

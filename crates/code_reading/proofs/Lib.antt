@@ -1,0 +1,5 @@
+pub mod NumeralLaws
+pub mod CodeLaws
+pub mod AnswerLaws
+pub mod ReadingLaws
+pub mod Witnesses
