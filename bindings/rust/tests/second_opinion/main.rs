@@ -10,6 +10,9 @@
 mod archive;
 mod big;
 mod calls;
+mod code_rules;
+mod code_texts;
+mod codes;
 mod lists;
 mod marked;
 mod positions;

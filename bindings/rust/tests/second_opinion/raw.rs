@@ -3,6 +3,7 @@
 
 use crate::archive;
 use crate::calls::{Direction, Lists};
+use crate::code_rules::Code;
 use crate::steps::Set;
 use std::ops::Range;
 use std::ptr::{null, null_mut};
@@ -127,4 +128,34 @@ pub fn null_lists(direction: Direction, set: &Set, marks: &mut [u8], count: &mut
             &mut count[1],
         )
     }
+}
+
+/// The places lent for a code's side, east and north are the middle three of five; the outer two
+/// must stay as they are.
+pub type CodePlaces = [i64; 5];
+
+/// A code written into the lent bytes; no bytes are a null pointer. The length's place is the
+/// middle one of three.
+pub fn write_code(code: &Code, text: Option<&mut [u8]>, length: &mut Count) -> u8 {
+    let (bytes, room) = text.map_or((null_mut(), 0), |text| (text.as_mut_ptr(), text.len()));
+    // SAFETY: the pointer and room are a slice's, or null and 0, which the header allows, and the
+    // length's place may be written.
+    unsafe {
+        archive::laea1_write_code(
+            code.side,
+            code.east,
+            code.north,
+            bytes,
+            room,
+            &mut length[1],
+        )
+    }
+}
+
+/// A code read from the lent bytes; no bytes are a null pointer.
+pub fn read_code(text: Option<&[u8]>, places: &mut CodePlaces) -> u8 {
+    let (bytes, length) = text.map_or((null(), 0), |text| (text.as_ptr(), text.len()));
+    // SAFETY: the pointer and length are a slice's, or null and 0, which the header allows, and
+    // the last argument is three places that may be written.
+    unsafe { archive::laea1_read_code(bytes, length, places[1..4].as_mut_ptr().cast()) }
 }

@@ -266,7 +266,7 @@ fn cell() {
     report.end(&[0, 3]);
 }
 
-fn side(random: &mut Random) -> i64 {
+pub fn side(random: &mut Random) -> i64 {
     let any = random.any_size();
     let good = random.pick(&[10_000, 100_000, 1_000_000]);
     let bad = random.pick(&[
