@@ -3,7 +3,6 @@ use mathlib.Core.Path.{_≡_, refl, ap, ap₂, _∙_}
 use mathlib.Core.List.{List}
 use Prim.Native.Nat.{ℕ, zero, suc, _<_}
 use native.Mathlib.Omega.{arith}
-use borrow.Author.Tests.{le-leb}
 use lib.Dec.{leb}
 use lib.IntN.{ℤ}
 use lib.ListN.{length, take, drop}
@@ -16,13 +15,14 @@ use Rattle.text.specs.declared.Numeral.the-variants.{Number, Other}
 use Rattle.text.specs.Cutting.{upTo, after}
 use Rattle.grid_codes.specs.declared.WrittenCode.the-variants.{Length, Refused as Unwritten}
 use Rattle.grid_codes.specs.Codes.{codeText, codeRefusal, writeRefusal, intoFirst}
-use Rattle.grid_codes.proofs.CellLaws.{coded}
+use Rattle.grid_codes.proofs.CellLaws.{has-code, coded}
 use Rattle.grid_codes.proofs.Lengths.{code-most}
+use Rattle.grid_codes.proofs.WritingLaws.{enough-room}
 use Rattle.code_reading.specs.declared.ReadCode.{ReadCode}
 use Rattle.code_reading.specs.declared.ReadCode.the-variants.{Cell, Refused as Unread}
 use Rattle.code_reading.specs.Reading.{byte-N, byte-E, sideNamed, cellNumeral, ofNumbers, numbersOf, ofSide, codeOf}
 use Rattle.code_reading.specs.Theorems.{WrittenRead, ReadWritten, ReadNumbers}
-use Rattle.code_reading.proofs.CodeLaws.{code-read, is-code}
+use Rattle.code_reading.proofs.CodeLaws.{has-code-read, is-code}
 
 -- ---- written and read
 
@@ -39,13 +39,16 @@ written-read side east north bytes bytes′ n call =
     let given = length-answered refusal n (length text) (call .answer-is) in
     let none = both-passed (codeRefusal side east north) (unless (leb (length text) (length bytes)) little-room 0) (given .0) in
     let bytes-are = call .bytes-are ∙ ap (λ (r : ℕ). written r (intoFirst text bytes) bytes) (given .0) in
-    ap codeOf (ap₂ take (given .1) bytes-are ∙ take-append-seam text (drop (length text) bytes)) ∙ code-read side east north (none .0)
+    ap codeOf (ap₂ take (given .1) bytes-are ∙ take-append-seam text (drop (length text) bytes)) ∙ has-code-read side east north (has-code side east north (none .0))
 
 pub read-written : ReadWritten
-unfolding writeRefusal
-read-written text side east north e =
+read-written text side east north bytes bytes′ answer e room call =
     let is = is-code text side east north e in
-    (is .is-text, λ room h. rw (coded side east north (is .cell), ap length (is .is-text), le-leb (length text) room h))
+    let none : writeRefusal side east north (length bytes) ≡ 0 =
+    enough-room side east north (coded side east north (is .cell)) (length bytes) (rw (is .is-text) room) in (
+      call .answer-is ∙ ap₂ (λ (n : ℕ) (l : List ℕ). answered Unwritten n (Length (length l))) none (is .is-text),
+      call .bytes-are ∙ ap₂ (λ (n : ℕ) (l : List ℕ). written n (intoFirst l bytes) bytes) none (is .is-text),
+    )
 
 -- ---- the number
 

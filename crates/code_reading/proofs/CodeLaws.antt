@@ -3,15 +3,12 @@
 use mathlib.Core.Path.{_≡_, refl, sym, ap, ap₂, _∙_}
 use mathlib.Core.Bool.{Bool, true, false, cond}
 use mathlib.Core.List.{List, _∷_, _++_}
-use Prim.Native.Nat.{ℕ, suc, _+_, _*_, _^_, _≤_, _<_}
+use Prim.Native.Nat.{ℕ, _+_, _≤_}
 use native.Mathlib.Omega.{arith}
-use lib.Dec.{lit≤, lit<}
-use lib.IntN.{ℤ, pos, natAbs}
+use lib.IntN.{ℤ, pos}
 use lib.ListN.{length, length-append}
 use Rattle.units.specs.Spans.{within, same}
-use Rattle.units.specs.Refusals.{not-a-code}
-use Rattle.units.proofs.Spans.{Between}
-use Rattle.cells.specs.Cells.{accepted-side, top}
+use Rattle.cells.specs.Cells.{accepted-side}
 use Rattle.cells.proofs.Sides.{of-each-side, top-most}
 use Rattle.text.specs.declared.Numeral.{Numeral}
 use Rattle.text.specs.declared.Numeral.the-variants.{Number, Other}
@@ -20,14 +17,12 @@ use Rattle.text.specs.Numbers.{numberText}
 use Rattle.text.specs.Cutting.{upTo, after}
 use Rattle.text.proofs.Sameness.{same-is}
 use Rattle.text.proofs.Cutting.{Without, cut-before, cut-after, joined}
-use Rattle.text.proofs.Digits.{decimal-length, text-natural}
-use Rattle.code_reading.specs.declared.ReadCode.{ReadCode}
-use Rattle.code_reading.specs.declared.ReadCode.the-variants.{Cell, Refused as Unread}
+use Rattle.code_reading.specs.declared.ReadCode.the-variants.{Cell}
 use Rattle.grid_codes.specs.Codes.{sideText, codeText, codeRefusal}
 use Rattle.code_reading.specs.Reading.{byte-N, byte-E, sideNamed, cellNumeral, ofNumbers, numbersOf, ofSide, codeOf}
-use Rattle.code_reading.specs.Theorems.{OneText, CodeRead}
+use Rattle.code_reading.specs.Theorems.{ReadExactly, OneText}
 use Rattle.grid_codes.proofs.CellLaws.{HasCode, has-code, coded}
-use Rattle.code_reading.proofs.NumeralLaws.{numeral-of, text-without, ReadAs, numeral-is}
+use Rattle.code_reading.proofs.NumeralLaws.{numeral-of, text-without, numeral-is}
 
 -- ---- the side
 
@@ -95,9 +90,6 @@ module _ (side east north : ℤ) (has : HasCode side east north) where
       ∙ ap (λ (s : Numeral). ofSide s rest) (side-read side (has .side-accepted))
       ∙ numbers-read
 
-pub code-read : CodeRead
-code-read side east north none = has-code-read side east north (has-code side east north none)
-
 -- ---- what is read is a code
 
 of-numbers : (s : ℤ) (x y : Numeral) {side east north : ℤ} → ofNumbers s x y ≡ Cell side east north → (s ≡ side) × (x ≡ Number east) × (y ≡ Number north)
@@ -136,6 +128,12 @@ is-code text side east north e =
           ∙ ap₂ (λ (s n : List ℕ). s ++ byte-N ∷ n) (sym (of-text .1)) numbers
           ∙ joined byte-N text long;
     }
+
+pub read-exactly : ReadExactly
+read-exactly text side east north = (there, λ h. ap codeOf (h .1) ∙ has-code-read side east north (has-code side east north (h .0)))
+  where
+    there : codeOf text ≡ Cell side east north → (codeRefusal side east north ≡ 0) × (text ≡ codeText side east north)
+    there e = let is = is-code text side east north e in (coded side east north (is .cell), sym (is .is-text))
 
 pub one-text : OneText
 one-text text other side east north e f = sym (is-code text side east north e .is-text) ∙ is-code other side east north f .is-text

@@ -3,7 +3,7 @@
 use mathlib.Core.Path.{_≡_, refl, sym, ap, subst, _∙_}
 use mathlib.Core.Bool.{Bool, true, false, cond, false≢true}
 use mathlib.Core.List.{List, [], _∷_}
-use Prim.Native.Nat.{ℕ, _≤_, _<_}
+use Prim.Native.Nat.{ℕ, _≤_}
 use native.Mathlib.Omega.{arith}
 use lib.IntN.{ℤ, pos, natAbs}
 use lib.ListN.{length}
@@ -14,7 +14,7 @@ use Rattle.units.proofs.Spans.{Between}
 use Rattle.cells.specs.Cells.{top}
 use Rattle.text.specs.declared.Numeral.{Numeral}
 use Rattle.text.specs.declared.Numeral.the-variants.{Number, Other}
-use Rattle.text.specs.Numbers.{isDigit, areDigits, valueFrom, leadingZero, unsignedOf, numberText}
+use Rattle.text.specs.Numbers.{isDigit, areDigits, leadingZero, unsignedOf, numberText}
 use Rattle.text.proofs.Cutting.{Without, without-more}
 use Rattle.text.proofs.Digits.{decimal-plain, decimal-digits, text-natural}
 use Rattle.text.proofs.Numerals.{decimal-read, number-read, read-printed}

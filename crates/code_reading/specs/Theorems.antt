@@ -3,17 +3,25 @@
 use Prim.Native.Nat.{ℕ, _≤_}
 use Prim.Native.String.{String}
 use mathlib.Core.Path.{_≡_}
+use mathlib.Core.Logic.{_↔_}
 use mathlib.Core.List.{List}
 use lib.IntN.{ℤ, pos}
 use lib.ListN.{length, take}
 use Rattle.units.specs.Refusals.{not-a-code}
 use Rattle.text.specs.Ascii.{ascii}
+use Rattle.grid_codes.specs.declared.WrittenCode.{WrittenCode}
 use Rattle.grid_codes.specs.declared.WrittenCode.the-variants.{Length}
-use Rattle.grid_codes.specs.Codes.{codeText, codeRefusal, writeRefusal, CodeWritten}
+use Rattle.grid_codes.specs.Codes.{codeText, codeRefusal, intoFirst, CodeWritten}
 use Rattle.code_reading.specs.declared.ReadCode.the-variants.{Cell, Refused as Unread}
 use Rattle.code_reading.specs.Reading.{codeOf}
 
 -- ---- there and back
+
+-- A text is read as a cell exactly where the cell has a code and the text is that.
+abbrev pub ReadExactly : Type 0
+ReadExactly =
+    (text : List ℕ) (side east north : ℤ) →
+    (codeOf text ≡ Cell side east north) ↔ ((codeRefusal side east north ≡ 0) × (text ≡ codeText side east north))
 
 -- "What is written reads back as the same cell and side": the first bytes, as many as the answer says.
 abbrev pub WrittenRead : Type 0
@@ -22,12 +30,14 @@ WrittenRead =
     CodeWritten side east north bytes bytes′ (Length n) →
     codeOf (take n bytes′) ≡ Cell side east north
 
--- "each accepted text is the one that would be written": with room for it, writing its cell is accepted and writes this text.
+-- "each accepted text is the one that would be written": a call that writes its cell, and is lent as many bytes or more, writes this text.
 abbrev pub ReadWritten : Type 0
 ReadWritten =
-    (text : List ℕ) (side east north : ℤ) →
+    (text : List ℕ) (side east north : ℤ) (bytes bytes′ : List ℕ) (answer : WrittenCode) →
     codeOf text ≡ Cell side east north →
-    (codeText side east north ≡ text) × ((room : ℕ) → length text ≤ room → writeRefusal side east north room ≡ 0)
+    length text ≤ length bytes →
+    CodeWritten side east north bytes bytes′ answer →
+    (answer ≡ Length (length text)) × (bytes′ ≡ intoFirst text bytes)
 
 -- So no two texts name one cell.
 abbrev pub OneText : Type 0
@@ -36,10 +46,6 @@ OneText =
     codeOf text ≡ Cell side east north →
     codeOf other ≡ Cell side east north →
     text ≡ other
-
--- Every cell that has a code is read from it.
-abbrev pub CodeRead : Type 0
-CodeRead = (side east north : ℤ) → codeRefusal side east north ≡ 0 → codeOf (codeText side east north) ≡ Cell side east north
 
 -- ---- which refusal number there is
 

@@ -10,7 +10,7 @@ use lib.Signed.{leZ}
 use Rattle.units.specs.Spans.{same}
 use Rattle.units.specs.Refusals.{out-of-limits, negative-cell, little-room, unless, firstOf}
 use Rattle.units.specs.Answers.{answered, written, Counted, counted}
-use Rattle.cells.specs.Cells.{accepted-side, top, numbered}
+use Rattle.cells.specs.Cells.{accepted-side, numbered}
 use Rattle.text.specs.Ascii.{ascii}
 use Rattle.text.specs.Numbers.{pairText}
 use Rattle.grid_codes.specs.declared.WrittenCode.{WrittenCode}

@@ -20,6 +20,7 @@ LongestCode =
     codeRefusal side east north ≡ 0 →
     length (codeText side east north) ≤ length (codeText side (pos (top (natAbs side))) (pos (top (natAbs side))))
 
+-- Those have 18, 15 and 14 bytes.
 abbrev pub LongestLengths : Type 0
 LongestLengths =
     (length (codeText (pos 10_000) (pos 500_000) (pos 500_000)) ≡ 18)

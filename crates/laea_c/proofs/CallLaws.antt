@@ -13,7 +13,7 @@ use Rattle.grid_codes.specs.declared.WrittenCode.the-variants.{Length, Refused 
 use Rattle.code_reading.specs.declared.ReadCode.{ReadCode}
 use Rattle.code_reading.specs.declared.ReadCode.the-variants.{Cell, Refused as Unread}
 use Rattle.grid_codes.specs.Codes.{codeText, writeRefusal, intoFirst, written-told, CodeWritten}
-use Rattle.code_reading.specs.Reading.{codeOf, CodeTold, read-told}
+use Rattle.code_reading.specs.Reading.{codeOf, read-told}
 use Rattle.code_reading.proofs.AnswerLaws.{read-numbers}
 use Rattle.parameters.specs.declared.Parameters.{Parameters}
 use Rattle.pairs.specs.declared.Row.{Row}

@@ -1,5 +1,5 @@
 -- `are_numbers` meets its contract: both numbers are tested against the top number and its opposite. Assumes nothing.
-use mathlib.Core.Path.{_≡_, ap, _∙_}
+use mathlib.Core.Path.{_≡_, ap, ap₂, _∙_}
 use mathlib.Core.Bool.{_&&_}
 use Prim.Native.Nat.{_≤_}
 use lib.IntN.{ℤ, pos, negℤ, natAbs, _-ℤ_}
@@ -13,6 +13,10 @@ use Rattle.cells.proofs.Sides.{top-most}
 use borrow.Author.Needs.{needs}
 use Rattle.cells.proofs.are_numbers.Statement.{statement}
 use Rattle.cells.proofs.are_numbers.Tie as tie
+
+-- a test of other names for the same numbers
+within-as : {low low′ high high′ z z′ : ℤ} → low ≡ low′ → high ≡ high′ → z ≡ z′ → within low high z ≡ within low′ high′ z′
+within-as {high = high} {z = z} l h e = ap (λ (x : ℤ). within x high z) l ∙ ap₂ (within _) h e
 
 module _ (c : tie.After-top-number) where
   abbrev side : ℤ
@@ -52,13 +56,10 @@ are-within-requires c κs = search needs
 returns : tie.Need-returns
 unfolding numbered
 returns c =
-    let args = c .before .before .args in
-    let fit = c .before .before .fits in
-    let of-low = low-is (c .before) in
-    let of-high = high-is (c .before) in
-    let of-east = toZ-ofZ (fit .east) in
-    let of-north = toZ-ofZ (fit .north) in
-    c .are-within .ensures ∙ cc
+    let at = c .before in
+    let f = at .before .fits in
+    c .are-within .ensures
+    ∙ ap₂ _&&_ (within-as (low-is at) (high-is at) (toZ-ofZ (f .east))) (within-as (low-is at) (high-is at) (toZ-ofZ (f .north)))
 
 pub are-numbers-spec : {M : Type 1} → statement M
 are-numbers-spec =

@@ -1,6 +1,6 @@
 -- `top_number` meets its contract: the quotient of the limit by each of the three sides is computed. Assumes nothing.
 use mathlib.Core.Path.{_≡_, refl, ap, _∙_, subst}
-use Prim.Native.Nat.{ℕ, _≤_}
+use Prim.Native.Nat.{_≤_}
 use lib.IntN.{ℤ, pos, natAbs}
 use lib.Signed.{_≤ℤ_, quotZ}
 use mir.Syntax.{w64}

@@ -1,7 +1,6 @@
 -- `read_code` meets its contract: a text longer than every code is none; else it is cut at the first N, which the kit's `find` finds, and the side
 -- and the numbers are read. Assumes nothing.
 use mathlib.Core.Path.{_≡_, sym, ap, ap₂, _∙_}
-use mathlib.Core.Bool.{true}
 use mathlib.Core.List.{List}
 use Prim.Native.Nat.{ℕ}
 use native.Mathlib.Omega.{arith}
@@ -13,7 +12,7 @@ use mir.Facts.{toZ-ofZ}
 use Rattle.bytes.specs.Bytes.{indexOf}
 use Rattle.cells.specs.Cells.{accepted-side}
 use Rattle.text.specs.declared.Numeral.the-variants.{Number}
-use Rattle.text.specs.Cutting.{upTo, after}
+use Rattle.text.specs.Cutting.{upTo}
 use Rattle.text.proofs.Cutting.{found, before-cut, after-cut, no-cut}
 use Rattle.code_reading.specs.Reading.{byte-N, sideNamed, numbersOf}
 use Rattle.code_reading.proofs.CodeLaws.{side-is}

@@ -1,5 +1,5 @@
 -- `read_numbers` meets its contract: the text is cut at the first E, which the kit's `find` finds, and both parts are read. Assumes nothing.
-use mathlib.Core.Path.{_≡_, sym, ap, ap₂, _∙_}
+use mathlib.Core.Path.{_≡_, sym, ap₂, _∙_}
 use mathlib.Core.List.{List}
 use Prim.Native.Nat.{ℕ}
 use native.Mathlib.Omega.{arith}
@@ -9,11 +9,8 @@ use mir.Syntax.{w64}
 use mir.Val.{toZ, ofZ}
 use mir.Facts.{toZ-ofZ}
 use Rattle.bytes.specs.Bytes.{indexOf}
-use Rattle.text.specs.declared.Numeral.{Numeral}
-use Rattle.text.specs.declared.Numeral.the-variants.{Number}
 use Rattle.text.specs.Cutting.{upTo, after}
 use Rattle.text.proofs.Cutting.{found, before-cut, after-cut, no-cut}
-use Rattle.code_reading.specs.declared.ReadCode.the-variants.{Cell}
 use Rattle.code_reading.specs.Reading.{byte-E, cellNumeral}
 use Rattle.code_reading.proofs.ReadingLaws.{numbers-uncut, north-none, east-none, both-numbers}
 use borrow.Author.Needs.{needs}

@@ -1,7 +1,5 @@
 -- `side_named` meets its contract: the text is compared with that of each side in turn. Assumes nothing.
 use mathlib.Core.Path.{_≡_, refl, sym, _∙_}
-use mathlib.Core.List.{List}
-use Prim.Native.Nat.{ℕ}
 use lib.IntN.{pos}
 use Rattle.units.specs.Spans.{within, same}
 use Rattle.text.specs.Ascii.{sameText}

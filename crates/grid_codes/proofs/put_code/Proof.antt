@@ -2,7 +2,7 @@
 use mathlib.Core.List.{List}
 use Prim.Native.Nat.{ℕ}
 use native.Mathlib.Omega.{arith}
-use lib.ListN.{length, length-append}
+use lib.ListN.{length-append}
 use mir.Facts.{toZ-ofZ}
 use Rattle.text.specs.Ascii.{ascii}
 use Rattle.text.specs.Numbers.{pairText}
