@@ -42,6 +42,11 @@ top side = plane-limit / side
 unfoldable pub numbered : ℕ → ℤ → ℤ → Bool
 numbered side east north = inside (top side) east && inside (top side) north
 
+-- "another side, or a number too far from 0 on either side": refused 3
+unfoldable pub numbersRefusal : ℤ → ℤ → ℤ → ℕ
+numbersRefusal side east north =
+    unless (accepted-side side) out-of-limits (unless (numbered (natAbs side) east north) out-of-limits 0)
+
 -- ---- the answer
 
 -- "Another side, or a position beyond ±5,000,000,000 cm: refused 3."

@@ -6,10 +6,11 @@ use units::answers::refused;
 use units::are_within;
 use units::is_on_plane;
 use units::refusals::OUT_OF_LIMITS;
+use units::refusals::unless;
 ghost use mathlib.Core.Path.{_≡_};
 ghost use mathlib.Core.Bool.{true};
 ghost use lib.IntN.{pos, natAbs};
-ghost use Rattle.cells.specs.Cells.{accepted-side, cellNumber, top, numbered, cellOf, cell-told, cellTold};
+ghost use Rattle.cells.specs.Cells.{accepted-side, cellNumber, top, numbersRefusal, cellOf, cell-told, cellTold};
 
 // The cell's numbers along the two axes, or the refusal number alone.
 pub enum CellAnswer {
@@ -56,13 +57,19 @@ pub fn top_number(side: i64) -> i64
     PLANE_MOST / side
 }
 
-// Whether cells of this side have these numbers.
-pub fn are_numbers(side: i64, east: i64, north: i64) -> bool
-    requires { ⌜ accepted-side side ≡ true ⌝ }
-    ensures { λ r. ⌜ r ≡ numbered (natAbs side) east north ⌝ }
+// The refusal of a side or of numbers that no cell has; 0 is none.
+pub fn numbers_refusal(side: i64, east: i64, north: i64) -> u8
+    ensures { λ r. ⌜ r ≡ numbersRefusal side east north ⌝ }
 {
+    if !is_side(side) {
+        return OUT_OF_LIMITS;
+    }
     let top = top_number(side);
-    are_within(-top, top, east, -top, top, north)
+    unless(
+        are_within(-top, top, east, -top, top, north),
+        OUT_OF_LIMITS,
+        0,
+    )
 }
 
 // Any side, any position: the customer's call.

@@ -21,8 +21,8 @@ use Rattle.grid_codes.proofs.WritingLaws.{enough-room}
 use Rattle.code_reading.specs.declared.ReadCode.{ReadCode}
 use Rattle.code_reading.specs.declared.ReadCode.the-variants.{Cell, Refused as Unread}
 use Rattle.code_reading.specs.Reading.{byte-N, byte-E, sideNamed, cellNumeral, ofNumbers, numbersOf, ofSide, codeOf}
-use Rattle.code_reading.specs.Theorems.{WrittenRead, ReadWritten, ReadNumbers}
-use Rattle.code_reading.proofs.CodeLaws.{has-code-read, is-code}
+use Rattle.code_reading.specs.Theorems.{WrittenRead, ReadWritten, UnreadExactly, ReadNumbers}
+use Rattle.code_reading.proofs.CodeLaws.{has-code-read, is-code, read-exactly}
 
 -- ---- written and read
 
@@ -66,13 +66,29 @@ pub read-numbers : ReadNumbers
 unfolding codeOf
 read-numbers text n e = side-unread (sideNamed (upTo byte-N text)) (after byte-N text) e
 
--- A text that is longer than every code is none.
-pub long-unread : (text : List ℕ) → 18 < length text → codeOf text ≡ Unread not-a-code
-long-unread text long = by-answer (codeOf text) refl
+-- What no text of a code is, by its answer.
+unread : (text : List ℕ) → ((side east north : ℤ) → codeOf text ≡ Cell side east north → ⊥) → codeOf text ≡ Unread not-a-code
+unread text none = by-answer (codeOf text) refl
   where
     by-answer : (answer : ReadCode) → codeOf text ≡ answer → codeOf text ≡ Unread not-a-code
-    by-answer (Cell side east north) e =
+    by-answer (Cell side east north) e = absurd (none side east north e)
+    by-answer (Unread n) e = e ∙ ap Unread (read-numbers text n e)
+
+pub unread-exactly : UnreadExactly
+unread-exactly text = (there, λ h. unread text (λ side east north e. let is = read-exactly text side east north .0 e in h side east north (is .0) (is .1)))
+  where
+    there : codeOf text ≡ Unread not-a-code → (side east north : ℤ) → codeRefusal side east north ≡ 0 → text ≡ codeText side east north → ⊥
+    there e side east north none is =
+        let read = read-exactly text side east north .1 (none, is) in
+        let n : _≡_ {A = ℕ} 0 1 = cc in
+        absurd (omega arith)
+
+-- A text that is longer than every code is none.
+pub long-unread : (text : List ℕ) → 18 < length text → codeOf text ≡ Unread not-a-code
+long-unread text long = unread text too-long
+  where
+    too-long : (side east north : ℤ) → codeOf text ≡ Cell side east north → ⊥
+    too-long side east north e =
         let is = is-code text side east north e in
         let short = code-most side east north (is .cell) in
-        absurd (omega (arith, ap length (is .is-text)))
-    by-answer (Unread n) e = e ∙ ap Unread (read-numbers text n e)
+        omega (arith, ap length (is .is-text))

@@ -1,5 +1,5 @@
 -- Codes written and read. A side's text has no N and digits have no E, so a code is cut into its three parts, each of which is read as what was
--- written; and what is read in three parts is, joined again, what would be written. No code is longer than 18 bytes. Assumes nothing.
+-- written; and what is read in three parts is, joined again, what would be written. Assumes nothing.
 use mathlib.Core.Path.{_≡_, refl, sym, ap, ap₂, _∙_}
 use mathlib.Core.Bool.{Bool, true, false, cond}
 use mathlib.Core.List.{List, _∷_, _++_}

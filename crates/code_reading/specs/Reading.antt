@@ -35,11 +35,11 @@ abbrev pub capped : ℕ → Numeral → Numeral
 capped most (Number z) = cond (leZ z (pos most)) (Number z) Other
 capped most Other = Other
 
--- "cell numbers from 0 to 5,000,000,000 divided by the side, without leading zeros"
+-- "cell numbers from 0 to 5,000,000,000 divided by the side, without leading zeros"; all of them have fewer than ten digits
 unfoldable pub cellNumeral : ℤ → List ℕ → Numeral
 cellNumeral side digits = cond (leadingZero digits) Other (capped (top (natAbs side)) (unsignedOf false digits))
 
--- "31 text not of this form": a number that is none
+-- "31 text not of this form": bytes that are no cell number
 abbrev pub ofNumbers : ℤ → Numeral → Numeral → ReadCode
 ofNumbers side (Number east) (Number north) = Cell side east north
 ofNumbers side (Number east) Other = Unread not-a-code
@@ -49,7 +49,7 @@ ofNumbers side Other north = Unread not-a-code
 unfoldable pub numbersOf : ℤ → List ℕ → ReadCode
 numbersOf side text = ofNumbers side (cellNumeral side (after byte-E text)) (cellNumeral side (upTo byte-E text))
 
--- a side that is none
+-- bytes that name no side
 abbrev pub ofSide : Numeral → List ℕ → ReadCode
 ofSide (Number side) text = numbersOf side text
 ofSide Other text = Unread not-a-code
@@ -68,3 +68,7 @@ pub record CodeTold : Type 0 where
 abbrev pub read-told : ReadCode → CodeTold
 read-told (Cell side east north) = record { refusal = 0; side = side; east = east; north = north }
 read-told (Unread number) = record { refusal = number; side = pos 0; east = pos 0; north = pos 0 }
+
+-- what the answer tells
+unfoldable pub readTold : List ℕ → CodeTold
+readTold text = read-told (codeOf text)

@@ -47,8 +47,15 @@ OneText =
     codeOf other ≡ Cell side east north →
     text ≡ other
 
--- ---- which refusal number there is
+-- ---- the refusal
 
+-- A text is refused exactly where it is the code of no cell.
+abbrev pub UnreadExactly : Type 0
+UnreadExactly =
+    (text : List ℕ) →
+    (codeOf text ≡ Unread not-a-code) ↔ ((side east north : ℤ) → codeRefusal side east north ≡ 0 → text ≡ codeText side east north → ⊥)
+
+-- There is one number, so 0 is told of accepted answers alone.
 abbrev pub ReadNumbers : Type 0
 ReadNumbers = (text : List ℕ) (n : ℕ) → codeOf text ≡ Unread n → n ≡ not-a-code
 

@@ -13,7 +13,7 @@ use units::refusals::NOT_A_CODE;
 ghost use mathlib.Core.Path.{_≡_};
 ghost use mathlib.Core.Bool.{true};
 ghost use Rattle.cells.specs.Cells.{accepted-side};
-ghost use Rattle.code_reading.specs.Reading.{sideNamed, cellNumeral, numbersOf, codeOf};
+ghost use Rattle.code_reading.specs.Reading.{sideNamed, cellNumeral, numbersOf, codeOf, read-told, readTold};
 
 // The side and the numbers of the cell, or the refusal number alone.
 pub enum ReadCode {
@@ -74,7 +74,7 @@ fn read_numbers(side: i64, text: &[u8]) -> ReadCode
 
 // Any bytes: the customer's call that reads a cell's code. No more bytes are looked at than a code may have.
 pub fn read_code(text: &[u8]) -> ReadCode
-    ensures { λ r. ⌜ r ≡ codeOf (now (text .entry)) ⌝ }
+    ensures { λ r. ⌜ (r ≡ codeOf (now (text .entry))) × (read-told r ≡ readTold (now (text .entry))) ⌝ }
 {
     if CODE_MOST < text.len() {
         return ReadCode::Refused(NOT_A_CODE);

@@ -1,27 +1,32 @@
 -- When a row ends in "ok".
 use Prim.Native.Nat.{ℕ}
-use Prim.Native.Char.{code}
 use mathlib.Core.Bool.{Bool, false, _&&_}
 use mathlib.Core.List.{List}
 use lib.Dec.{eqb}
 use lib.IntN.{ℤ}
-use lib.ListN.{replicate}
+use lib.ListN.{length}
 use Rattle.units.specs.Spans.{same}
-use Rattle.units.specs.Answers.{written}
+use Rattle.units.specs.Answers.{answered, written}
 use Rattle.text.specs.Ascii.{sameText}
 use Rattle.code_reading.specs.declared.ReadCode.{ReadCode}
 use Rattle.code_reading.specs.declared.ReadCode.the-variants.{Cell, Refused as Unread}
+use Rattle.grid_codes.specs.declared.WrittenCode.{WrittenCode}
+use Rattle.grid_codes.specs.declared.WrittenCode.the-variants.{Length, Refused as Unwritten}
 use Rattle.grid_codes.specs.Codes.{codeText, writeRefusal, intoFirst}
 
--- the bytes lent for writing: twenty full stops, so that the rest is seen to stay
-abbrev pub lent : List ℕ
-lent = replicate 20 (code ".")
+-- the same answer
+abbrev pub sameAnswer : WrittenCode → WrittenCode → Bool
+sameAnswer (Length n) (Length right) = eqb n right
+sameAnswer (Length n) (Unwritten right) = false
+sameAnswer (Unwritten n) (Length right) = false
+sameAnswer (Unwritten n) (Unwritten right) = eqb n right
 
--- a code is written, or refused with this number, and the bytes are these
-abbrev pub isWritten : ℤ → ℤ → ℤ → ℕ → List ℕ → Bool
-isWritten side east north number right =
-    let refusal = writeRefusal side east north 20 in
-    eqb refusal number && sameText (written refusal (intoFirst (codeText side east north) lent) lent) right
+-- a code is written into these bytes, or refused: the answer, and what is left in them
+abbrev pub isWritten : ℤ → ℤ → ℤ → List ℕ → WrittenCode → List ℕ → Bool
+isWritten side east north bytes right expected =
+    let refusal = writeRefusal side east north (length bytes) in
+    let text = codeText side east north in
+    sameAnswer (answered Unwritten refusal (Length (length text))) right && sameText (written refusal (intoFirst text bytes) bytes) expected
 
 -- a text is read as this cell
 abbrev pub isCell : ReadCode → ℤ → ℤ → ℤ → Bool

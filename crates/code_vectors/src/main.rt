@@ -6,6 +6,7 @@ fn main() {
     writing::document_001();
     writing::ends();
     writing::refused();
+    writing::rooms();
     reading::codes();
     reading::not_numbers();
     reading::not_codes();

@@ -5,8 +5,8 @@ use cells::SIDE_100_M;
 use code_reading::ReadCode;
 use code_reading::read_code;
 use printing::number;
+use printing::print;
 use printing::refusal;
-use printing::text;
 use printing::verdict;
 use units::both;
 use units::is_within;
@@ -62,12 +62,12 @@ fn show(answer: ReadCode) {
 fn run(bytes: &[u8]) -> ReadCode
     ensures { λ r. ⌜ r ≡ codeOf (now (bytes .entry)) ⌝ }
 {
-    text(b"read ");
-    text(bytes);
-    text(b":");
+    print(b"read ");
+    print(bytes);
+    print(b":");
     let found = read_code(bytes);
     show(found);
-    text(b", expected");
+    print(b", expected");
     found
 }
 

@@ -9,9 +9,10 @@ use lib.Signed.{leZ}
 use Rattle.proof_kit.proofs.Order.{le-leZ, pos-≤ℤ}
 use Rattle.integers.proofs.Greatest.{both}
 use Rattle.units.specs.Spans.{inside}
+use Rattle.units.specs.Refusals.{negative-cell, unless}
 use Rattle.units.proofs.Spans.{Between, within-size, size-inside}
-use Rattle.units.proofs.Chains.{link-passed}
-use Rattle.cells.specs.Cells.{accepted-side, top, numbered}
+use Rattle.units.proofs.Chains.{link-passed, both-passed}
+use Rattle.cells.specs.Cells.{accepted-side, top, numbered, numbersRefusal}
 use Rattle.grid_codes.specs.Codes.{codeRefusal}
 
 pub record HasCode (side east north : ℤ) : Type 0 where
@@ -24,12 +25,13 @@ natural-inside n (pos k) within natural = record { natural = refl; least = omega
 natural-inside n (negsuc k) within natural = absurd (false≢true natural)
 
 pub has-code : (side east north : ℤ) → codeRefusal side east north ≡ 0 → HasCode side east north
-unfolding codeRefusal numbered
+unfolding codeRefusal numbersRefusal numbered
 has-code side east north none =
     let most = top (natAbs side) in
-    let of-side = link-passed (accepted-side side) 2 none in
+    let parts = both-passed (numbersRefusal side east north) (unless (leZ (pos 0) east && leZ (pos 0) north) negative-cell 0) none in
+    let of-side = link-passed (accepted-side side) 2 (parts .0) in
     let of-numbers = link-passed (numbered (natAbs side) east north) 2 (of-side .1) in
-    let of-signs = link-passed (leZ (pos 0) east && leZ (pos 0) north) 31 (of-numbers .1) in
+    let of-signs = link-passed (leZ (pos 0) east && leZ (pos 0) north) 31 (parts .1) in
     let near = both (inside most east) (inside most north) (of-numbers .0) in
     let natural = both (leZ (pos 0) east) (leZ (pos 0) north) (of-signs .0) in
     record {
@@ -39,7 +41,7 @@ has-code side east north none =
     }
 
 pub coded : (side east north : ℤ) → HasCode side east north → codeRefusal side east north ≡ 0
-unfolding codeRefusal numbered
+unfolding codeRefusal numbersRefusal numbered
 coded side east north has =
     let most = top (natAbs side) in
     rw (

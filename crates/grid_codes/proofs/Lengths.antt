@@ -8,12 +8,12 @@ use lib.Dec.{lit≤, lit<}
 use lib.IntN.{ℤ, pos, natAbs}
 use lib.ListN.{length, length-append}
 use Rattle.units.specs.Spans.{within, same}
-use Rattle.cells.specs.Cells.{accepted-side, top}
+use Rattle.cells.specs.Cells.{accepted-side, top, numbered, numbersRefusal}
 use Rattle.cells.proofs.Sides.{of-each-side}
 use Rattle.text.specs.Ascii.{ascii}
 use Rattle.text.specs.Numbers.{decimal, numberText, labelled, pairText}
 use Rattle.text.proofs.Digits.{decimal-length, text-natural}
-use Rattle.grid_codes.specs.Codes.{sideText, codeText}
+use Rattle.grid_codes.specs.Codes.{sideText, codeText, codeRefusal}
 use Rattle.grid_codes.specs.Theorems.{LongestCode, LongestLengths}
 use Rattle.grid_codes.proofs.CellLaws.{HasCode, has-code, coded}
 
@@ -64,8 +64,8 @@ longest-code side east north none =
     of-naturals)
 
 pub longest-lengths : LongestLengths
-unfolding codeText sideText same within numberText decimal
-longest-lengths = (refl, refl, refl)
+unfolding codeText sideText same within numberText decimal codeRefusal numbersRefusal accepted-side numbered
+longest-lengths = ((refl, refl), (refl, refl), (refl, refl))
 
 -- so no code has more than 18 bytes
 top-code : (side : ℤ) → accepted-side side ≡ true → length (codeText side (pos (top (natAbs side))) (pos (top (natAbs side)))) ≤ 18

@@ -6,9 +6,10 @@ use native.Mathlib.Omega.{arith}
 use borrow.Author.Tests.{le-leb, lt-leb}
 use lib.IntN.{ℤ}
 use lib.ListN.{length}
-use Rattle.units.specs.Refusals.{out-of-limits, negative-cell, little-room, firstOf}
+use Rattle.units.specs.Refusals.{out-of-limits, negative-cell, little-room}
 use Rattle.units.specs.Answers.{answered}
-use Rattle.units.proofs.Chains.{chain, Gives, another}
+use Rattle.units.proofs.Chains.{chain, Gives, first-given, another}
+use Rattle.cells.specs.Cells.{numbersRefusal}
 use Rattle.grid_codes.specs.declared.WrittenCode.the-variants.{Length, Refused as Unwritten}
 use Rattle.grid_codes.specs.Codes.{codeText, codeRefusal, writeRefusal, intoFirst, CodeWritten}
 use Rattle.grid_codes.specs.Theorems.{WriteNumbers}
@@ -20,7 +21,7 @@ written-number zero len k e = let z : _≡_ {A = ℕ} 1 0 = cc in absurd (omega 
 written-number (suc m) len k e = let is : suc m ≡ k = cc in (is, λ z. omega (arith, is ∙ z))
 
 pub write-numbers : WriteNumbers
-unfolding writeRefusal codeRefusal
+unfolding writeRefusal codeRefusal numbersRefusal
 write-numbers side east north bytes bytes′ n call =
     let refusal = writeRefusal side east north (length bytes) in
     let number : Gives (0 ∷ out-of-limits ∷ negative-cell ∷ little-room ∷ []) refusal = search chain depth 40 in
@@ -32,11 +33,7 @@ write-numbers side east north bytes bytes′ n call =
 module _ (side east north : ℤ) where
   pub refused-first : (room : ℕ) → (codeRefusal side east north ≡ 0 → ⊥) → writeRefusal side east north room ≡ codeRefusal side east north
   unfolding writeRefusal
-  refused-first room some = either (codeRefusal side east north) _ some
-    where
-      either : (n next : ℕ) → (n ≡ 0 → ⊥) → firstOf n next ≡ n
-      either zero next some = absurd (some refl)
-      either (suc n) next some = refl
+  refused-first room some = first-given (codeRefusal side east north) _ some
 
   module _ (none : codeRefusal side east north ≡ 0) where
     pub no-room : (room : ℕ) → room < length (codeText side east north) → writeRefusal side east north room ≡ little-room

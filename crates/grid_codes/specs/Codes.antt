@@ -4,13 +4,13 @@ use mathlib.Core.Path.{_≡_}
 use mathlib.Core.Bool.{_&&_, cond}
 use mathlib.Core.List.{List, [], _++_}
 use lib.Dec.{leb}
-use lib.IntN.{ℤ, pos, natAbs}
+use lib.IntN.{ℤ, pos}
 use lib.ListN.{length, drop}
 use lib.Signed.{leZ}
 use Rattle.units.specs.Spans.{same}
-use Rattle.units.specs.Refusals.{out-of-limits, negative-cell, little-room, unless, firstOf}
+use Rattle.units.specs.Refusals.{negative-cell, little-room, unless, firstOf}
 use Rattle.units.specs.Answers.{answered, written, Counted, counted}
-use Rattle.cells.specs.Cells.{accepted-side, numbered}
+use Rattle.cells.specs.Cells.{numbersRefusal}
 use Rattle.text.specs.Ascii.{ascii}
 use Rattle.text.specs.Numbers.{pairText}
 use Rattle.grid_codes.specs.declared.WrittenCode.{WrittenCode}
@@ -32,12 +32,10 @@ codeText side east north = sideText side ++ pairText (ascii "N") north (ascii "E
 
 -- ---- writing
 
--- "3 (another side, or a number too far from 0 on either side), then 32": 0 where the cell has a code
+-- "writing tests 3 (another side, or a number too far from 0 on either side), then 32": 0 where the cell has a code
 unfoldable pub codeRefusal : ℤ → ℤ → ℤ → ℕ
 codeRefusal side east north =
-    unless (accepted-side side) out-of-limits
-    (unless (numbered (natAbs side) east north) out-of-limits
-    (unless (leZ (pos 0) east && leZ (pos 0) north) negative-cell 0))
+    firstOf (numbersRefusal side east north) (unless (leZ (pos 0) east && leZ (pos 0) north) negative-cell 0)
 
 -- "then 33": "too little room" for this code
 unfoldable pub writeRefusal : ℤ → ℤ → ℤ → ℕ → ℕ

@@ -20,12 +20,15 @@ LongestCode =
     codeRefusal side east north ≡ 0 →
     length (codeText side east north) ≤ length (codeText side (pos (top (natAbs side))) (pos (top (natAbs side))))
 
--- Those have 18, 15 and 14 bytes.
+-- Those cells have codes, of 18, 15 and 14 bytes.
+abbrev pub HasLength : ℤ → ℤ → ℕ → Type 0
+HasLength side number bytes = (codeRefusal side number number ≡ 0) × (length (codeText side number number) ≡ bytes)
+
 abbrev pub LongestLengths : Type 0
 LongestLengths =
-    (length (codeText (pos 10_000) (pos 500_000) (pos 500_000)) ≡ 18)
-    × (length (codeText (pos 100_000) (pos 50_000) (pos 50_000)) ≡ 15)
-    × (length (codeText (pos 1_000_000) (pos 5_000) (pos 5_000)) ≡ 14)
+    HasLength (pos 10_000) (pos 500_000) 18
+    × HasLength (pos 100_000) (pos 50_000) 15
+    × HasLength (pos 1_000_000) (pos 5_000) 14
 
 -- ---- which refusal numbers there are
 
@@ -44,13 +47,15 @@ ExampleCode =
     (codeText (pos 100_000) (pos 3_962) (pos 2_999) ≡ ascii "1kmN2999E3962")
     × (writeRefusal (pos 100_000) (pos 3_962) (pos 2_999) 13 ≡ 0)
 
--- 3 by the side, and by either number on either side of 0, though the other is negative and no byte is lent; 32 by either number, though no byte is
+-- 3 by the side, and by either number on either side of 0, though a number is negative and no byte is lent; 32 by either number, though no byte is
 -- lent; 33 for one byte less than the shortest code has
 abbrev pub WriteWitnesses : Type 0
 WriteWitnesses =
-    (writeRefusal (pos 1_000) (pos 0) (pos 0) 18 ≡ 3)
+    (writeRefusal (pos 1_000) (negℤ (pos 1)) (pos 0) 0 ≡ 3)
     × (writeRefusal (pos 1_000_000) (pos 5_001) (negℤ (pos 1)) 0 ≡ 3)
-    × (writeRefusal (pos 100_000) (negℤ (pos 1)) (negℤ (pos 50_001)) 0 ≡ 3)
+    × (writeRefusal (pos 1_000_000) (negℤ (pos 5_001)) (pos 0) 0 ≡ 3)
+    × (writeRefusal (pos 100_000) (negℤ (pos 1)) (pos 50_001) 0 ≡ 3)
+    × (writeRefusal (pos 100_000) (pos 0) (negℤ (pos 50_001)) 0 ≡ 3)
     × (writeRefusal (pos 10_000) (negℤ (pos 500_000)) (pos 0) 0 ≡ 32)
     × (writeRefusal (pos 10_000) (pos 500_000) (negℤ (pos 1)) 0 ≡ 32)
     × (writeRefusal (pos 10_000) (pos 0) (pos 0) 7 ≡ 33)

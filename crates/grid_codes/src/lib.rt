@@ -1,14 +1,12 @@
 // Writes the code of a cell in the INSPIRE geographical grid systems: document 02, c). Sides are in cm.
 use cells::SIDE_1_KM;
 use cells::SIDE_100_M;
-use cells::are_numbers;
-use cells::is_side;
+use cells::numbers_refusal;
 use text::put_bytes;
 use text::put_pair;
 use units::both;
 use units::refusals::LITTLE_ROOM;
 use units::refusals::NEGATIVE_CELL;
-use units::refusals::OUT_OF_LIMITS;
 use units::refusals::unless;
 ghost use mathlib.Core.Path.{_≡_};
 ghost use mathlib.Core.Bool.{true};
@@ -31,15 +29,11 @@ pub const CODE_MOST: usize = 18;
 fn code_refusal(side: i64, east: i64, north: i64) -> u8
     ensures { λ r. ⌜ r ≡ codeRefusal side east north ⌝ }
 {
-    if !is_side(side) {
-        return OUT_OF_LIMITS;
+    let refusal = numbers_refusal(side, east, north);
+    if refusal != 0 {
+        return refusal;
     }
-    let natural = both(0 <= east, 0 <= north);
-    unless(
-        are_numbers(side, east, north),
-        OUT_OF_LIMITS,
-        unless(natural, NEGATIVE_CELL, 0),
-    )
+    unless(both(0 <= east, 0 <= north), NEGATIVE_CELL, 0)
 }
 
 // Writes the text of a side and answers the index after it.

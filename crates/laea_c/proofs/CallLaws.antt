@@ -13,7 +13,7 @@ use Rattle.grid_codes.specs.declared.WrittenCode.the-variants.{Length, Refused 
 use Rattle.code_reading.specs.declared.ReadCode.{ReadCode}
 use Rattle.code_reading.specs.declared.ReadCode.the-variants.{Cell, Refused as Unread}
 use Rattle.grid_codes.specs.Codes.{codeText, writeRefusal, intoFirst, written-told, CodeWritten}
-use Rattle.code_reading.specs.Reading.{codeOf, read-told}
+use Rattle.code_reading.specs.Reading.{codeOf, read-told, readTold}
 use Rattle.code_reading.proofs.AnswerLaws.{read-numbers}
 use Rattle.parameters.specs.declared.Parameters.{Parameters}
 use Rattle.pairs.specs.declared.Row.{Row}
@@ -21,7 +21,7 @@ use Rattle.point_lists.specs.declared.ListAnswer.{ListAnswer}
 use Rattle.row_lists.specs.Rows.{zeros}
 use Rattle.point_lists.specs.Lists.{listRefusal, listAnswer, list-told, ListCall}
 use Rattle.c_answers.specs.Answers.{countAfter, lengthAfter, cellAfter}
-use Rattle.laea_c.specs.Calls.{ListAnswered, CodeAnswered, CellAnswered}
+use Rattle.laea_c.specs.Calls.{ListAnswered, CodeAnswered, CodeReadAnswered}
 
 -- ---- one point
 
@@ -79,9 +79,10 @@ left-by-number (Cell side east north) out numbers = refl
 left-by-number (Unread zero) out numbers = let z = numbers zero refl in absurd (omega (arith, z))
 left-by-number (Unread (suc n)) out numbers = refl
 
-pub cell-answered : (text : List ℕ) {answer : ReadCode} {out out′ : List ℤ} {r : ℕ} →
-    answer ≡ codeOf text → r ≡ read-told answer .refusal → out′ ≡ cellAfter answer out → CellAnswered (read-told (codeOf text)) out out′ r
-cell-answered text {answer} {out} {out′} {r} is number left =
+pub code-read-answered : (text : List ℕ) {answer : ReadCode} {out out′ : List ℤ} {r : ℕ} →
+    answer ≡ codeOf text → r ≡ read-told answer .refusal → out′ ≡ cellAfter answer out → CodeReadAnswered (readTold text) out out′ r
+unfolding readTold
+code-read-answered text {answer} {out} {out′} {r} is number left =
     let told = read-told (codeOf text) in
     let returned : r ≡ told .refusal = number ∙ ap (λ (a : ReadCode). read-told a .refusal) is in
     record {

@@ -35,12 +35,12 @@ pub record ListAnswered (p : Parameters) (row : Parameters → Float → Float �
 
 -- A call that writes the code of a cell: the result is its refusal number; where that is 0 the code stands in the first bytes of the text, the rest
 -- staying, and the length is the code's; else both are as they were.
-pub record CodeAnswered (side east north : ℤ) (text text′ : List ℕ) (before after r : ℕ) : Type 0 where
+pub record CodeAnswered (side east north : ℤ) (text text′ : List ℕ) (len len′ r : ℕ) : Type 0 where
   pub result-is : r ≡ writeRefusal side east north (length text)
   pub text-is : text′ ≡ written r (intoFirst (codeText side east north) text) text
-  pub length-is : after ≡ answered (λ (n : ℕ). before) r (length (codeText side east north))
+  pub length-is : len′ ≡ answered (λ (n : ℕ). len) r (length (codeText side east north))
 
 -- A call that reads a code: the result is its refusal number; `out` has side, east number and north number where that is 0, else what it had.
-pub record CellAnswered (told : CodeTold) (out out′ : List ℤ) (r : ℕ) : Type 0 where
+pub record CodeReadAnswered (told : CodeTold) (out out′ : List ℤ) (r : ℕ) : Type 0 where
   pub result-is : r ≡ told .refusal
   pub out-is : out′ ≡ written r (told .side ∷ told .east ∷ told .north ∷ []) out

@@ -3,8 +3,8 @@ use c_answers::answer_read;
 use c_answers::answer_written;
 use code_reading::read_code;
 use grid_codes::write_code;
-ghost use Rattle.code_reading.specs.Reading.{read-told, codeOf};
-ghost use Rattle.laea_c.specs.Calls.{CodeAnswered, CellAnswered};
+ghost use Rattle.code_reading.specs.Reading.{readTold};
+ghost use Rattle.laea_c.specs.Calls.{CodeAnswered, CodeReadAnswered};
 
 // Writes the code of a cell into the first bytes of the text.
 #[no_mangle]
@@ -23,7 +23,7 @@ pub extern "C" fn laea1_write_code(
 // Reads a code: the side, and the cell's numbers east and north.
 #[no_mangle]
 pub extern "C" fn laea1_read_code(text: &[u8], out: &mut [i64; 3]) -> u8
-    ensures { λ r. ⌜ CellAnswered (read-told (codeOf (now (text .entry)))) (now (out .entry)) (now (out .exit)) r ⌝ }
+    ensures { λ r. ⌜ CodeReadAnswered (readTold (now (text .entry))) (now (out .entry)) (now (out .exit)) r ⌝ }
 {
     answer_read(read_code(text), out)
 }

@@ -11,8 +11,16 @@ ghost use Rattle.bytes.specs.Bytes.{indexOf};
 ghost use Rattle.text.specs.Ascii.{newline};
 ghost use Rattle.printing.specs.Texts.{fromLine, lineOf};
 
-pub fn text(bytes: &[u8]) {
+fn text(bytes: &[u8]) {
     io::write_all(STDOUT_FILENO, bytes);
+}
+
+// Writes bytes as they are and gives back how many.
+pub fn print(bytes: &[u8]) -> usize
+    ensures { λ r. ⌜ r ≡ length (now (bytes .entry)) ⌝ }
+{
+    text(bytes);
+    bytes.len()
 }
 
 pub fn size(n: u64) -> u64

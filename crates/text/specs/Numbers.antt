@@ -1,4 +1,4 @@
--- Whole numbers as text, in ASCII bytes. What is read is a number of document 01, "The program".
+-- Whole numbers as text, in ASCII bytes. What is read is a number of document 01, "The program"; grid codes read digits by the same rule.
 use Prim.Native.Nat.{ℕ, zero, suc, _+_, _*_, _-_, _/_, _%_}
 use Prim.Native.Char.{code}
 use mathlib.Core.Bool.{Bool, true, false, _&&_, cond}

@@ -23,6 +23,10 @@ pub both-passed : (m n : ℕ) → firstOf m n ≡ 0 → (m ≡ 0) × (n ≡ 0)
 both-passed zero n h = (refl, h)
 both-passed (suc m) n h = let z : ⊥ = omega arith in absurd z
 
+pub first-given : (m n : ℕ) → (m ≡ 0 → ⊥) → firstOf m n ≡ m
+first-given zero n some = absurd (some refl)
+first-given (suc m) n some = refl
+
 -- ---- any number
 
 -- n is one of the numbers

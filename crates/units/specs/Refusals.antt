@@ -10,7 +10,8 @@ use mathlib.Core.Path.{_≡_}
 abbrev pub not-finite : ℕ
 not-finite = 2
 
--- "latitude beyond ±90° or longitude beyond ±180°; easting or northing beyond ±50,000,000 m"
+-- "latitude beyond ±90° or longitude beyond ±180°; easting or northing beyond ±50,000,000 m"; for cells "another side", and for codes "a number too
+-- far from 0 on either side"
 abbrev pub out-of-limits : ℕ
 out-of-limits = 3
 

@@ -5,7 +5,7 @@ ghost use Rattle.units.specs.Refusals.{unless};
 // A coordinate is NaN or infinite.
 pub const NOT_FINITE: u8 = 2;
 
-// A coordinate is beyond its limits.
+// A coordinate, a cell's side or a cell number is beyond its limits.
 pub const OUT_OF_LIMITS: u8 = 3;
 
 // The position is too far from the centre.

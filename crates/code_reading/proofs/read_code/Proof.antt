@@ -14,13 +14,19 @@ use Rattle.cells.specs.Cells.{accepted-side}
 use Rattle.text.specs.declared.Numeral.the-variants.{Number}
 use Rattle.text.specs.Cutting.{upTo}
 use Rattle.text.proofs.Cutting.{found, before-cut, after-cut, no-cut}
-use Rattle.code_reading.specs.Reading.{byte-N, sideNamed, numbersOf}
+use Rattle.code_reading.specs.declared.ReadCode.{ReadCode}
+use Rattle.code_reading.specs.Reading.{byte-N, sideNamed, numbersOf, codeOf, read-told, readTold}
 use Rattle.code_reading.proofs.CodeLaws.{side-is}
 use Rattle.code_reading.proofs.AnswerLaws.{long-unread}
 use Rattle.code_reading.proofs.ReadingLaws.{unnamed, named-as, code-uncut}
 use borrow.Author.Needs.{needs}
 use Rattle.code_reading.proofs.read_code.Statement.{statement}
 use Rattle.code_reading.proofs.read_code.Tie as tie
+
+-- an answer that is the definition's tells what it has to
+told : {r : ReadCode} (text : List ℕ) → r ≡ codeOf text → (r ≡ codeOf text) × (read-told r ≡ readTold text)
+unfolding readTold
+told text e = (e, ap read-told e)
 
 module _ (c : tie.After-find) where
   abbrev text : List ℕ
@@ -55,13 +61,13 @@ module _ (c : tie.After-known-told) where
   is-side = sym (side-read (c .before .before .before)) ∙ c .before .side .given .1
 
 returns : tie.Need-returns
-returns c = sym (long-unread (c .before .before .args .text .now) (c .if1 .taken))
+returns c = told (c .before .before .args .text .now) (sym (long-unread (c .before .before .args .text .now) (c .if1 .taken)))
 
 find-requires : tie.Need-find-requires
 find-requires c κs = search needs
 
 returns-2 : tie.Need-returns-2
-returns-2 c = let at = c .before in sym (code-uncut (text at) (no-cut byte-N (text at) (end at) (cut at) (c .if2 .taken)))
+returns-2 c = let at = c .before in told (text at) (sym (code-uncut (text at) (no-cut byte-N (text at) (end at) (cut at) (c .if2 .taken))))
 
 slice-aggregate-side-named : tie.Need-slice-aggregate-side-named
 slice-aggregate-side-named c = let at = c .before .before in sym (length-take-le (end at) (text at) (at .find .ensures .1))
@@ -76,7 +82,7 @@ enum-told : tie.Need-enum-told
 enum-told c = search needs
 
 returns-3 : tie.Need-returns-3
-returns-3 c = let read = c .before .before in sym (unnamed (text (found-at read)) (sym (side-read read) ∙ c .enum-told .given .1))
+returns-3 c = let read = c .before .before in told (text (found-at read)) (sym (unnamed (text (found-at read)) (sym (side-read read) ∙ c .enum-told .given .1)))
 
 add-read-numbers : tie.Need-add-read-numbers
 add-read-numbers c = search needs
@@ -97,9 +103,10 @@ returns-4 : tie.Need-returns-4
 returns-4 c =
     let known = c .before .before in
     let at = cut-at known in
-    c .read-numbers .ensures
+    told (text at)
+    (c .read-numbers .ensures
     ∙ ap₂ numbersOf (held known) (after-cut byte-N (text at) (end at) (cut at))
-    ∙ sym (named-as (text at) (side known) (is-side known))
+    ∙ sym (named-as (text at) (side known) (is-side known)))
 
 pub read-code-spec : {M : Type 1} → statement M
 read-code-spec =
