@@ -28,15 +28,16 @@
  *
  * Refusals. Every value of every argument is taken, NaN and infinity too, and is answered or refused
  * with a number. The first that applies is told: of a single point 11 to 16, 2, 3, 4 in this order; of
- * a list call 5, 6, 11 to 16, and then of each point 2, 3, 4; of a code to be written 3, 32, 33. Both
- * coordinates are tested for 2 before either is for 3, and both cell numbers for 3 before either is
- * for 32. The limits of 3 are tested on the double itself, before it is rounded.
+ * a list call 5, 6, 11 to 16, and then of each point 2, 3, 4; of a code to be written 3, 32, 33, and
+ * of a text to be read as one 31. Both coordinates are tested for 2 before either is for 3, and both
+ * cell numbers for 3 before either is for 32. The limits of 3 are tested on the double itself, before
+ * it is rounded.
  *
  *   2  LAEA_NOT_FINITE     a coordinate is NaN or infinite
  *   3  LAEA_OUT_OF_LIMITS  a latitude beyond 90 or a longitude beyond 180 degrees, either side of 0;
  *                          an easting or a northing beyond 50,000,000 m (5,000,000,000 cm), either
  *                          side of 0; a cell's side that is not one of the three; a cell number
- *                          farther from 0 than 5,000,000,000 divided by the side
+ *                          farther from 0 than 5,000,000,000 cm divided by the side
  *   4  LAEA_TOO_FAR        too far from the centre of the projection: close to the point opposite to
  *                          it, or where the map has no position
  *   5  LAEA_UNEQUAL_LISTS  the lists of a call are not of one length
@@ -259,9 +260,10 @@ uint8_t laea_inverse_list(laea_set set,
  */
 
 /*
- * Writes the code of a cell; the side is in cm. The result is LAEA_OK, and then the first bytes of
- * text are the code, the others are as they were, and *length is how many bytes the code has; or it is
- * the refusal number, and then text and *length are as they were. Refused 3, 32, 33.
+ * Writes the code of a cell; the side is in cm, and text_length is how many bytes are lent. The result
+ * is LAEA_OK, and then the first bytes of text are the code, the others are as they were, and *length
+ * is how many bytes the code has; or it is the refusal number, and then text and *length are as they
+ * were. Refused 3, 32, 33. Where LAEA_CODE_MOST + 1 bytes that are 0 are lent, a NUL ends the code.
  */
 uint8_t laea_write_code(int64_t side, int64_t east, int64_t north,
                         char *text, size_t text_length,

@@ -7,8 +7,8 @@ use core::fmt;
 ///
 /// The names are those of `include/laea.h`. The first that applies is told: of a single point 11 to
 /// 16, 2, 3, 4 in this order; of a list call 5, 6, 11 to 16, and then of each point 2, 3, 4; of a
-/// code to be written 3, 32, 33. Both coordinates are tested for 2 before either is for 3, and both
-/// cell numbers for 3 before either is for 32.
+/// code to be written 3, 32, 33, and of a text to be read as one 31. Both coordinates are tested for
+/// 2 before either is for 3, and both cell numbers for 3 before either is for 32.
 ///
 /// ```
 /// use laea::{Position, Refusal, Set};

@@ -311,7 +311,7 @@ fn code_edges() {
     run.report.end(&[0, RANGE, NEGATIVE, ROOM]);
 }
 
-/// "writing tests 3, then 32, then 33", each where the next would be given too.
+/// 3, then 32, then 33, each where the next would be given too.
 #[test]
 fn code_refusals() {
     let mut run = Run::new("order of a code's refusals", 1);
