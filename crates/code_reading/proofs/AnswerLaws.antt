@@ -39,7 +39,8 @@ written-read side east north bytes bytes′ n call =
     let given = length-answered refusal n (length text) (call .answer-is) in
     let none = both-passed (codeRefusal side east north) (unless (leb (length text) (length bytes)) little-room 0) (given .0) in
     let bytes-are = call .bytes-are ∙ ap (λ (r : ℕ). written r (intoFirst text bytes) bytes) (given .0) in
-    ap codeOf (ap₂ take (given .1) bytes-are ∙ take-append-seam text (drop (length text) bytes)) ∙ has-code-read side east north (has-code side east north (none .0))
+    ap codeOf (ap₂ take (given .1) bytes-are ∙ take-append-seam text (drop (length text) bytes))
+    ∙ has-code-read side east north (has-code side east north (none .0))
 
 pub read-written : ReadWritten
 read-written text side east north bytes bytes′ answer e room call =

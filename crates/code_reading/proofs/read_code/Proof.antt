@@ -97,7 +97,9 @@ part-read-numbers-end : tie.Need-part-read-numbers-end
 part-read-numbers-end c = search needs
 
 read-numbers-requires : tie.Need-read-numbers-requires
-read-numbers-requires c κs = let known = c .before in ap accepted-side (held known) ∙ side-is (upTo byte-N (text (cut-at known))) (side known) (is-side known) .0
+read-numbers-requires c κs =
+    let known = c .before in
+    ap accepted-side (held known) ∙ side-is (upTo byte-N (text (cut-at known))) (side known) (is-side known) .0
 
 returns-4 : tie.Need-returns-4
 returns-4 c =
