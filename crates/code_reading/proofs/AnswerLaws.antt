@@ -1,7 +1,7 @@
 -- What the calls' answers say: a written code is read back, a read text is what would be written, and 31 alone refuses. Assumes nothing.
 use mathlib.Core.Path.{_≡_, refl, ap, ap₂, _∙_}
 use mathlib.Core.List.{List}
-use Prim.Native.Nat.{ℕ, zero, suc, _<_}
+use Prim.Native.Nat.{ℕ, zero, suc, _<_, _≤_}
 use native.Mathlib.Omega.{arith}
 use lib.Dec.{leb}
 use lib.IntN.{ℤ}
@@ -22,7 +22,7 @@ use Rattle.code_reading.specs.declared.ReadCode.{ReadCode}
 use Rattle.code_reading.specs.declared.ReadCode.the-variants.{Cell, Refused as Unread}
 use Rattle.code_reading.specs.Reading.{byte-N, byte-E, sideNamed, cellNumeral, ofNumbers, numbersOf, ofSide, codeOf}
 use Rattle.code_reading.specs.Theorems.{WrittenRead, ReadWritten, UnreadExactly, ReadNumbers}
-use Rattle.code_reading.proofs.CodeLaws.{has-code-read, is-code, read-exactly}
+use Rattle.code_reading.proofs.CodeLaws.{has-code-read, IsCode, is-code, read-exactly}
 
 -- ---- written and read
 
@@ -42,11 +42,19 @@ written-read side east north bytes bytes′ n call =
     ap codeOf (ap₂ take (given .1) bytes-are ∙ take-append-seam text (drop (length text) bytes))
     ∙ has-code-read side east north (has-code side east north (none .0))
 
+accepted-again :
+    (text : List ℕ) (side east north : ℤ) →
+    IsCode text side east north →
+    (bytes : List ℕ) →
+    length text ≤ length bytes →
+    writeRefusal side east north (length bytes) ≡ 0
+accepted-again text side east north is bytes room =
+    enough-room side east north (coded side east north (is .cell)) (length bytes) (rw (is .is-text) room)
+
 pub read-written : ReadWritten
 read-written text side east north bytes bytes′ answer e room call =
     let is = is-code text side east north e in
-    let none : writeRefusal side east north (length bytes) ≡ 0 =
-    enough-room side east north (coded side east north (is .cell)) (length bytes) (rw (is .is-text) room) in (
+    let none = accepted-again text side east north is bytes room in (
       call .answer-is ∙ ap₂ (λ (n : ℕ) (l : List ℕ). answered Unwritten n (Length (length l))) none (is .is-text),
       call .bytes-are ∙ ap₂ (λ (n : ℕ) (l : List ℕ). written n (intoFirst l bytes) bytes) none (is .is-text),
     )
@@ -67,7 +75,7 @@ pub read-numbers : ReadNumbers
 unfolding codeOf
 read-numbers text n e = side-unread (sideNamed (upTo byte-N text)) (after byte-N text) e
 
--- What no text of a code is, by its answer.
+-- A text that is read as no cell is refused.
 unread : (text : List ℕ) → ((side east north : ℤ) → codeOf text ≡ Cell side east north → ⊥) → codeOf text ≡ Unread not-a-code
 unread text none = by-answer (codeOf text) refl
   where

@@ -22,11 +22,11 @@ use Rattle.grid_codes.specs.Codes.{sideText, codeText, codeRefusal}
 use Rattle.code_reading.specs.Reading.{byte-N, byte-E, sideNamed, cellNumeral, ofNumbers, numbersOf, ofSide, codeOf}
 use Rattle.code_reading.specs.Theorems.{ReadExactly, OneText}
 use Rattle.grid_codes.proofs.CellLaws.{HasCode, has-code, coded}
-use Rattle.code_reading.proofs.NumeralLaws.{numeral-of, text-without, numeral-is}
+use Rattle.code_reading.proofs.NumeralLaws.{numeral-of, text-without, ReadAs, numeral-is}
 
 -- ---- the side
 
-pub side-read : (side : ℤ) → accepted-side side ≡ true → sideNamed (sideText side) ≡ Number side
+side-read : (side : ℤ) → accepted-side side ≡ true → sideNamed (sideText side) ≡ Number side
 unfolding sideNamed sideText sameText same within
 side-read = of-each-side (λ side. sideNamed (sideText side) ≡ Number side) refl refl refl
 
@@ -105,6 +105,15 @@ of-side (Number s) text {side} e =
     (ap Number (parts .0), rw (sym (parts .0)) (parts .1), rw (sym (parts .0)) (parts .2))
 of-side Other text e = let n : _≡_ {A = ℕ} 0 1 = cc in absurd (omega arith)
 
+-- the two numbers with the E between them are the text that they were read from
+numbers-joined :
+    (side east north : ℤ) (text : List ℕ) →
+    ReadAs side (after byte-E text) east →
+    ReadAs side (upTo byte-E text) north →
+    numbersText east north ≡ text
+numbers-joined side east north text of-east of-north =
+    ap₂ (λ (n e : List ℕ). n ++ byte-E ∷ e) (of-north .printed) (of-east .printed) ∙ joined byte-E text (of-east .some)
+
 -- a text that is read, in its parts
 pub record IsCode (text : List ℕ) (side east north : ℤ) : Type 0 where
   pub cell : HasCode side east north
@@ -118,8 +127,7 @@ is-code text side east north e =
     let of-text = side-is (upTo byte-N text) side (parts .0) in
     let of-east = numeral-is side (after byte-E rest) east (parts .1) in
     let of-north = numeral-is side (upTo byte-E rest) north (parts .2) in
-    let numbers : numbersText east north ≡ rest =
-    ap₂ (λ (n e : List ℕ). n ++ byte-E ∷ e) (of-north .printed) (of-east .printed) ∙ joined byte-E rest (of-east .some) in
+    let numbers = numbers-joined side east north rest of-east of-north in
     let long : 1 ≤ length rest = omega (arith, sym (ap length numbers), length-append (numberText north) (byte-E ∷ numberText east)) in
     record {
       cell = record { side-accepted = of-text .0; of-east = of-east .range; of-north = of-north .range };

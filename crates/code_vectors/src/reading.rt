@@ -95,7 +95,7 @@ pub(crate) fn codes() {
     row(b"10kmN5000E5000", SIDE_10_KM, 5_000, 5_000);
 }
 
-// A side or a number that is none, or one past the largest.
+// Bytes that name no side, or that are no cell number; one past the largest is none.
 pub(crate) fn not_numbers() {
     not_a_code(b"10mN1E1");
     not_a_code(b"1KMN1E1");
