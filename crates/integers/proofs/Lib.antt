@@ -3,4 +3,5 @@ pub mod Rounding
 pub mod Greatest
 pub mod Search
 pub mod Squares
+pub mod Digits
 pub mod Meanings

@@ -1,10 +1,8 @@
--- Laws of root, from those of the greatest number that passes a test, and of Newton's iteration towards it: a step from r gives the mean of
--- r and n/r, which is not below their geometric mean, the root; where r is above the root, n/r is below r, and so is the mean.
--- Assumes nothing.
+-- Laws of root, from those of the greatest number that passes a test, and of the two means. Assumes nothing.
 use mathlib.Core.Path.{_≡_, subst}
 use mathlib.Core.Logic.{_⊎_, inl, inr}
-use Prim.Native.Nat.{ℕ, zero, suc, _+_, _*_, _/_, _-_, _<_, _≤_, zero-le}
-use native.Mathlib.Nat.{le-trans, le-of-lt, lt-of-lt-of-le, lt-of-le-of-lt, add-sub-of-le, mul-le-mul, lt-div-mul-add, div-lt-iff-lt-mul}
+use Prim.Native.Nat.{ℕ, zero, suc, _+_, _*_, _-_, _<_, _≤_, zero-le}
+use native.Mathlib.Nat.{le-trans, le-of-lt, lt-of-lt-of-le, lt-of-le-of-lt, add-sub-of-le, mul-le-mul}
 use native.Mathlib.Omega.{arith}
 use lib.Dec.{leb}
 use borrow.Author.Tests.{le-leb, lt-leb, leb-true}
@@ -49,8 +47,6 @@ root-most n a h =
     let l : root n < a + 1 = square-lt (root n) (a + 1) (lt-of-le-of-lt (root-low n) h) in
     omega arith
 
--- ---- Newton's iteration
-
 -- the geometric mean is at most the arithmetic one
 pub mean : (a b : ℕ) → 4 * (a * b) ≤ (a + b) * (a + b)
 mean a b = at (le-or-lt a b)
@@ -64,23 +60,3 @@ mean a b = at (le-or-lt a b)
     at : (a ≤ b) ⊎ (b < a) → 4 * (a * b) ≤ (a + b) * (a + b)
     at (inl h) = subst (λ (x : ℕ). 4 * (a * x) ≤ (a + x) * (a + x)) (add-sub-of-le h) (apart a (b - a))
     at (inr h) = subst (λ (x : ℕ). 4 * (x * b) ≤ (x + b) * (x + b)) (add-sub-of-le (le-of-lt h)) (other b (a - b))
-
-pub newton-above : (n r : ℕ) → 0 < r → n < ((r + n / r) / 2 + 1) * ((r + n / r) / 2 + 1)
-newton-above n r h =
-    let q : ℕ = n / r in
-    let t : ℕ = (r + n / r) / 2 + 1 in
-    let big : (r + (q + 1)) * (r + (q + 1)) ≤ (2 * t) * (2 * t) = square-mono (omega arith) in
-    omega (arith, lt-div-mul-add {a = n} h, mean r (q + 1), big)
-
-pub positive : (n r : ℕ) → n < r * r → 0 < r
-positive n zero h = absurd (none h)
-  where
-    none : n < 0 * 0 → ⊥
-    none h = omega arith
-positive n (suc r) h = omega arith
-
-pub quotient-below : (n r : ℕ) → n < r * r → n / r < r
-quotient-below n r h = div-lt-iff-lt-mul (positive n r h) .1 h
-
-pub newton-below : (n r : ℕ) → n < r * r → (r + n / r) / 2 < r
-newton-below n r h = omega (arith, quotient-below n r h)

@@ -53,16 +53,33 @@ pub fn near(n: i64, d: u64) -> i64
     signed(n < 0, nearest(magnitude(n), d))
 }
 
-// root(n), by Newton's iteration from above. The first guess p is a power of two whose square is above
-// n, and its step needs no division; while the square of r is above n, (r + n/r)/2 is smaller and not
-// below the root.
+// root(n), by its binary digits from the highest on. A round tries one digit; `bit`, the square of what the
+// digit is worth, is 2^62 at most and a quarter of it in the next round, so there are at most 32 rounds.
 pub fn root(n: u64) -> u64
     ensures { λ r. ⌜ r ≡ root n ⌝ }
 {
-    let p = 1u64 << ((65 - u64::leading_zeros(n)) / 2);
-    let mut r = (p + n / p) / 2;
-    while n < r * r {
-        r = (r + n / r) / 2;
+    let mut bit = if n < 1u64 << 60 {
+        1u64 << 58
+    } else {
+        1u64 << 62
+    };
+    let mut square = 0u64;
+    let mut r = 0u64;
+    let mut trial = bit;
+    // With z for the digits taken and w for 2 to the power of how many are left: r is z·w, square is z² and
+    // at most n, n is below (z + w)², bit is w²/4 rounded down, and trial is square + r + bit.
+    while 0 < bit {
+        let next = bit >> 2;
+        let half = r >> 1;
+        if n < trial {
+            trial = square + half + next;
+            r = half;
+        } else {
+            square = trial;
+            trial = trial + bit + half + next;
+            r = half + bit;
+        }
+        bit = next;
     }
     r
 }
