@@ -52,7 +52,7 @@ digit-taken n v z bit square r trial d h =
       within = omega (arith, d .within);
     }
 
--- The loop's invariant: with k digits left, w is 2^k.
+-- The loop's invariant: some digits are left, and w is 2 to the power of how many.
 pub record Tried (n bit square r trial : ℕ) : Type 0 where
   pub left : ℕ
   pub z : ℕ

@@ -1,4 +1,5 @@
--- Laws of root, from those of the greatest number that passes a test, and of the two means. Assumes nothing.
+-- Laws of root, from those of the greatest number that passes a test; and that the geometric mean is at most the arithmetic one.
+-- Assumes nothing.
 use mathlib.Core.Path.{_≡_, subst}
 use mathlib.Core.Logic.{_⊎_, inl, inr}
 use Prim.Native.Nat.{ℕ, zero, suc, _+_, _*_, _-_, _<_, _≤_, zero-le}

@@ -53,8 +53,9 @@ pub fn near(n: i64, d: u64) -> i64
     signed(n < 0, nearest(magnitude(n), d))
 }
 
-// root(n), by its binary digits from the highest on. A round tries one digit; `bit`, the square of what the
-// digit is worth, is 2^62 at most and a quarter of it in the next round, so there are at most 32 rounds.
+// root(n), by its binary digits from the highest on. A round tries one digit; `bit`, the square of what that
+// digit is worth, is at most 2^62 and loses two places in each round, so there are at most 32 rounds. Numbers
+// below 2^60 need only 30.
 pub fn root(n: u64) -> u64
     ensures { λ r. ⌜ r ≡ root n ⌝ }
 {
@@ -66,8 +67,9 @@ pub fn root(n: u64) -> u64
     let mut square = 0u64;
     let mut r = 0u64;
     let mut trial = bit;
-    // With z for the digits taken and w for 2 to the power of how many are left: r is z·w, square is z² and
-    // at most n, n is below (z + w)², bit is w²/4 rounded down, and trial is square + r + bit.
+    // With z for what the digits taken are worth and w for 2 to the power of how many are left: r is z·w,
+    // square is z² and at most n, n is below (z + w)², z + w is at most 2^32, bit is w²/4 rounded down, and
+    // trial is square + r + bit.
     while 0 < bit {
         let next = bit >> 2;
         let half = r >> 1;

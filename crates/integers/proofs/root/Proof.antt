@@ -1,5 +1,5 @@
--- `root` meets its contract. The loop's invariant is `Tried`, what the sentence at the loop says; each round tries the digit that it finds. The
--- measure is `bit`, which a round divides by four. Assumes nothing.
+-- `root` meets its contract. The loop's invariant is `Tried`, what the sentence at the loop says. Every sum is at most a trial square, which is
+-- within 64 bits. The measure is `bit`, which falls as it is shifted. Assumes nothing.
 use mathlib.Core.Logic.{⊎-elim}
 use Prim.Native.Nat.{_+_, _/_}
 use native.Mathlib.Omega.{arith}
@@ -28,7 +28,7 @@ not-taken :
 not-taken c =
     let l = c .before .before .before .loop in
     next-not-taken (c .before .before .before .before .before .args .n) (l .bit) (l .square) (l .r) (l .trial)
-    (omega (arith, c .before .before .loop-test .taken)) (c .if2 .taken) (l .inv)
+    (omega (arith, c .before .before .loop-test .taken)) (omega (arith, c .if2 .taken)) (l .inv)
 
 taken :
     (c : tie.After-row-known2 Inv-loop μ-loop) →
@@ -38,7 +38,7 @@ taken :
 taken c =
     let l = c .before .before .before .before .loop in
     next-taken (c .before .before .before .before .before .before .args .n) (l .bit) (l .square) (l .r) (l .trial)
-    (omega (arith, c .before .before .before .loop-test .taken)) (c .before .if2 .left) (l .inv)
+    (omega (arith, c .before .before .before .loop-test .taken)) (omega (arith, c .before .if2 .left)) (l .inv)
 
 add-trial : tie.Need-add-trial Inv-loop μ-loop
 add-trial c = record { fits = omega (arith, trial-fits _ _ _ _ _ (not-taken c)) }
@@ -73,7 +73,7 @@ loop-again-2 = taken
 returns : tie.Need-returns Inv-loop μ-loop
 returns c =
     let l = c .before .loop in
-    all-tried (c .before .before .before .args .n) (l .bit) (l .square) (l .r) (l .trial) (c .loop-test .left) (l .inv)
+    all-tried (c .before .before .before .args .n) (l .bit) (l .square) (l .r) (l .trial) (omega (arith, c .loop-test .left)) (l .inv)
 
 pub root-spec : {M : Type 1} → statement M
 root-spec =
