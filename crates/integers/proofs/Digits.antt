@@ -19,7 +19,7 @@ pub record Digits (n w z bit square r trial : ℕ) : Type 0 where
   pub high : n < (z + w) * (z + w)
   pub within : z + w ≤ 2 ^ 32
 
--- with w = 2·v
+-- what a round makes of it, with w = 2·v
 digit-not-taken :
     (n v z bit square r trial : ℕ) →
     Digits n (2 * v) z bit square r trial →
@@ -52,7 +52,7 @@ digit-taken n v z bit square r trial d h =
       within = omega (arith, d .within);
     }
 
--- The loop's invariant: some digits are left, and w is 2 to the power of how many.
+-- The loop's invariant: `left` digits are still to be tried, or none, and w is 2 to the power of `left`.
 pub record Tried (n bit square r trial : ℕ) : Type 0 where
   pub left : ℕ
   pub z : ℕ
