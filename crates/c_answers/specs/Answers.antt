@@ -14,6 +14,11 @@ use Rattle.code_reading.specs.declared.ReadCode.{ReadCode}
 use Rattle.code_reading.specs.declared.ReadCode.the-variants.{Cell, Refused as Unread}
 use Rattle.point_lists.specs.declared.ListAnswer.{ListAnswer}
 use Rattle.point_lists.specs.declared.ListAnswer.the-variants.{Count, Refused}
+use Rattle.tallies.specs.declared.NextTally.{NextTally}
+use Rattle.tallies.specs.declared.SumsAnswer.{SumsAnswer}
+use Rattle.tallies.specs.declared.SumsAnswer.the-variants.{Sums, Refused as NoSums}
+use Rattle.tallies.specs.Tallies.{tally-told}
+use Rattle.c_answers.specs.declared.TallyResult.{TallyResult}
 
 -- A call for a single answer: it returns the refusal number; `out` has the two values where that is 0, else what it had.
 pub record Answered {A : Type 0} (refusal : ℕ) (first second : A) (out out′ : List A) (r : ℕ) : Type 0 where
@@ -42,3 +47,12 @@ lengthAfter (Unwritten number) before = before
 abbrev pub cellAfter : ReadCode → List ℤ → List ℤ
 cellAfter (Cell side east north) before = side ∷ east ∷ north ∷ []
 cellAfter (Unread number) before = before
+
+-- what a call on a tally gives
+abbrev pub tallyResult : NextTally → TallyResult
+tallyResult next = record { tally = next .tally; refusal = tally-told (next .answer) }
+
+-- what a call that reads a cell leaves: sum, count and overload count, or what was there
+abbrev pub sumsAfter : SumsAnswer → List ℕ → List ℕ
+sumsAfter (Sums sum count overloads) before = sum ∷ count ∷ overloads ∷ []
+sumsAfter (NoSums number) before = before

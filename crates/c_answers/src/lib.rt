@@ -3,12 +3,17 @@ use code_reading::ReadCode;
 use grid_codes::WrittenCode;
 use pairs::Row;
 use point_lists::ListAnswer;
+use tallies::NextTally;
+use tallies::SumsAnswer;
+use tallies::Tally;
+use tallies::TallyAnswer;
 use units::answers::Told;
 ghost use mathlib.Core.Path.{_≡_};
 ghost use Rattle.grid_codes.specs.Codes.{written-told};
 ghost use Rattle.code_reading.specs.Reading.{read-told};
 ghost use Rattle.point_lists.specs.Lists.{list-told};
-ghost use Rattle.c_answers.specs.Answers.{AnswersFloats, AnswersWhole, countAfter, lengthAfter, cellAfter};
+ghost use Rattle.tallies.specs.Tallies.{sums-told};
+ghost use Rattle.c_answers.specs.Answers.{AnswersFloats, AnswersWhole, countAfter, lengthAfter, cellAfter, tallyResult, sumsAfter};
 
 // Writes the two values where the refusal number is 0, and only there. Returns the number.
 pub fn answer_floats(row: Row, out: &mut [f64; 2]) -> u8
@@ -69,5 +74,42 @@ pub fn answer_read(answer: ReadCode, out: &mut [i64; 3]) -> u8
             0
         }
         ReadCode::Refused(number) => number,
+    }
+}
+
+// What a call on a tally gives: the next tally, and the refusal number; 0 is none.
+#[repr(C)]
+pub struct TallyResult {
+    pub tally: Tally,
+    pub refusal: u8,
+}
+
+pub fn answer_tally(next: NextTally) -> TallyResult
+    ensures { λ r. ⌜ r ≡ tallyResult next ⌝ }
+{
+    let tally = next.tally;
+    let answer = next.answer;
+    let refusal = match answer {
+        TallyAnswer::Done => 0,
+        TallyAnswer::Refused(number) => number,
+    };
+    TallyResult { tally, refusal }
+}
+
+// Writes a cell's sum, count and overload count where it is read, and only there. Returns the refusal number; 0 is none.
+pub fn answer_sums(answer: SumsAnswer, out: &mut [u64; 3]) -> u8
+    ensures { λ r. ⌜ r ≡ sums-told answer .refusal ⌝ }
+    ensures { λ _. ⌜ now (out .exit) ≡ sumsAfter answer (now (out .entry)) ⌝ }
+{
+    match answer {
+        SumsAnswer::Sums {
+            sum,
+            count,
+            overloads,
+        } => {
+            *out = [sum, count, overloads];
+            0
+        }
+        SumsAnswer::Refused(number) => number,
     }
 }

@@ -70,7 +70,7 @@ module _ {unit : ℕ} {limit : Float} {most : ℕ} (kind : Coordinate unit limit
 
 -- ---- in: a double as a whole number of units
 
-whole-at-most : (unit most : ℕ) (x : Float) → AtMost most x → natAbs (wholeOf unit x) ≤ most * unit
+pub whole-at-most : (unit most : ℕ) (x : Float) → AtMost most x → natAbs (wholeOf unit x) ≤ most * unit
 unfolding wholeOf
 whole-at-most unit most nan h = absurd h
 whole-at-most unit most (inf s) h = absurd h

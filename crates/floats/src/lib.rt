@@ -83,7 +83,7 @@ const WHOLE_FIELD: u64 = 1051;
 // near(x · unit). In size x is digits · 2^(field − 1075), and below 2^−23 the answer is 0. The
 // product of the digits with the unit can pass 64 bits, so its last 24 bits are cut off: they lie
 // below the half that decides.
-fn whole_units(unit: u64, x: f64) -> i64
+pub fn whole_units(unit: u64, x: f64) -> i64
     requires { ⌜ (unit ≤ degree) × (withinLimit planeLimit x ≡ true) ⌝ }
     ensures { λ r. ⌜ r ≡ wholeOf unit x ⌝ }
 {

@@ -1,4 +1,4 @@
--- The set as C has it, and what calls for C on lists and codes return and write, over the definitions of the crates that they call.
+-- The set as C has it, and what calls for C on lists, codes and tallies return and write, over the definitions of the crates that they call.
 -- A lent list is the list of its values.
 use Prim.Native.Nat.{ℕ}
 use mathlib.Core.Path.{_≡_}
@@ -14,12 +14,15 @@ use Rattle.parameters.specs.ParameterSet.{setOf}
 use Rattle.pairs.specs.declared.Row.{Row}
 use Rattle.row_lists.specs.Rows.{zeros}
 use Rattle.point_lists.specs.Lists.{listRefusal, listAnswer, ListCall}
-use Rattle.c_answers.specs.Answers.{countAfter}
+use Rattle.tallies.specs.declared.slots.CellNumbers.{CellNumbers}
+use Rattle.tallies.specs.declared.SumsAnswer.{SumsAnswer}
+use Rattle.tallies.specs.Tallies.{sums-told}
+use Rattle.c_answers.specs.Answers.{countAfter, sumsAfter}
 use Rattle.laea_c.specs.declared.sets.Set.{Set}
 
--- the version 0.5.0: 10,000 times the major number, 100 times the minor one, and the patch
+-- the version 0.6.0: 10,000 times the major number, 100 times the minor one, and the patch
 abbrev pub version : ℕ
-version = 500
+version = 600
 
 -- the parameter set of these fields
 abbrev pub parametersOf : Set → Parameters
@@ -44,3 +47,12 @@ pub record CodeAnswered (side east north : ℤ) (text text′ : List ℕ) (len l
 pub record CodeReadAnswered (told : CodeTold) (out out′ : List ℤ) (r : ℕ) : Type 0 where
   pub result-is : r ≡ told .refusal
   pub out-is : out′ ≡ written r (told .side ∷ told .east ∷ told .north ∷ []) out
+
+-- the cell with these numbers
+abbrev pub cellNumbers : ℤ → ℤ → CellNumbers
+cellNumbers east north = record { east = east; north = north }
+
+-- A call that reads a cell of a tally: the result is its refusal number; `out` has sum, count and overload count where that is 0, else what it had.
+pub record SumsAnswered (answer : SumsAnswer) (out out′ : List ℕ) (r : ℕ) : Type 0 where
+  pub result-is : r ≡ sums-told answer .refusal
+  pub out-is : out′ ≡ sumsAfter answer out

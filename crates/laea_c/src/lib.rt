@@ -4,6 +4,7 @@
 pub mod codes;
 pub mod degrees;
 pub mod lists;
+pub mod power;
 pub mod sets;
 pub mod version;
 pub mod whole;

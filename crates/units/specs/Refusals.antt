@@ -1,4 +1,4 @@
--- Document 01, "Refusal numbers", with those of requests a) and c) of document 02: the numbers by name, and chains of tests of which the first that
+-- Document 01, "Refusal numbers", with those of requests a), c) and e) of document 02: the numbers by name, and chains of tests of which the first that
 -- fails gives its number.
 use Prim.Native.Nat.{ℕ, zero, suc}
 use mathlib.Core.Bool.{Bool, true, false}
@@ -55,6 +55,20 @@ negative-cell = 32
 
 abbrev pub little-room : ℕ
 little-room = 33
+
+-- "41 NaN or infinite power, 42 below 0 or above 1,000 mW, 43 the cell has 1,000,000 readings of both kinds together, 44 no slot is free and the
+-- cell has none"
+abbrev pub power-not-finite : ℕ
+power-not-finite = 41
+
+abbrev pub power-out-of-limits : ℕ
+power-out-of-limits = 42
+
+abbrev pub full-cell : ℕ
+full-cell = 43
+
+abbrev pub no-free-slot : ℕ
+no-free-slot = 44
 
 -- where the test fails, the refusal number; else what the next tests say
 abbrev pub unless : Bool → ℕ → ℕ → ℕ

@@ -1,4 +1,4 @@
--- The units that every layer counts in: document 01, "Words" and "Degrees and metres". The constants of `units` have these values.
+-- The units that every layer counts in: document 01, "Words" and "Degrees and metres", and document 02, e). The constants of `units` have these values.
 use Prim.Native.Nat.{ℕ}
 use lib.IntN.{ℤ, pos}
 
@@ -29,6 +29,10 @@ degree = 3_600_000
 -- cm in a metre
 abbrev pub metre : ℕ
 metre = 100
+
+-- nanowatts in a milliwatt: "whole nanowatts by near(value · 1,000,000)"
+abbrev pub milliwatt : ℕ
+milliwatt = 1_000_000
 
 -- "±50,000,000 m (±5,000,000,000 cm)"
 abbrev pub plane-limit : ℕ

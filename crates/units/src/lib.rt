@@ -40,6 +40,9 @@ pub const DEGREE: u64 = 3_600_000;
 
 pub const METRE: u64 = 100;
 
+// Nanowatts in a milliwatt.
+pub const MILLIWATT: u64 = 1_000_000;
+
 // Easting and northing, in cm, lie from the first to the second.
 pub const PLANE_LEAST: i64 = -5_000_000_000;
 

@@ -39,6 +39,18 @@ pub const NEGATIVE_CELL: u8 = 32;
 // Fewer bytes are lent than the code has.
 pub const LITTLE_ROOM: u8 = 33;
 
+// A power is NaN or infinite.
+pub const POWER_NOT_FINITE: u8 = 41;
+
+// A power is below 0 or above 1,000 mW.
+pub const POWER_OUT_OF_LIMITS: u8 = 42;
+
+// The cell has 1,000,000 readings.
+pub const FULL_CELL: u8 = 43;
+
+// No slot is free, and the cell has none.
+pub const NO_FREE_SLOT: u8 = 44;
+
 // A link in a chain of tests: where the test fails its number, else what the next tests say.
 pub fn unless(passed: bool, number: u8, next: u8) -> u8
     ensures { λ r. ⌜ r ≡ unless passed number next ⌝ }

@@ -1,0 +1,85 @@
+-- `read` meets its contract: where the cell has no slot an empty one is read. Assumes nothing.
+use borrow.Author.Needs.{needs}
+use mathlib.Core.Path.{_≡_, sym, ap, _∙_}
+use Prim.Native.Nat.{_≤_, _<_}
+use native.Mathlib.Omega.{arith}
+use lib.IntN.{ℤ}
+use lib.ListN.{length, length-map}
+use mir.Syntax.{w64}
+use mir.Facts.{toZ-ofZ}
+use Rattle.tallies.specs.Tallies.{cellRefusal}
+use Rattle.tallies.proofs.Outcomes.{own-slot, no-slot, read-refused, read-done}
+use Rattle.tallies.proofs.Tally.read.Statement.{statement}
+use Rattle.tallies.proofs.Tally.read.Tie as tie
+
+-- the array has as many slots as its type says
+all : (c : tie.Start) → length (c .args .self .slots) ≡ 256
+all c = sym (length-map (c .args .self .slots) _) ∙ c .good .0 .1 .1 .1 .0 .1 .0 .1
+
+refusal-is : (c : tie.After-cell-refusal) → cellRefusal (c .before .before .args .self .side) (c .before .before .args .cell) ≡ c .cell-refusal .result
+refusal-is c =
+    let start = c .before .before in
+    let side = toZ-ofZ {w = w64} {z = start .args .self .side} (search needs) in
+    sym (c .cell-refusal .ensures ∙ ap (λ (z : ℤ). cellRefusal z (start .args .cell)) side)
+
+cell-refusal-requires : tie.Need-cell-refusal-requires
+cell-refusal-requires c κs = search needs
+
+returns : tie.Need-returns
+returns c =
+    let at = c .before in
+    let start = at .before .before in
+    read-refused (start .args .self) (start .args .cell) (at .cell-refusal .result) (c .if1 .taken) (refusal-is at)
+
+slot-of-requires : tie.Need-slot-of-requires
+slot-of-requires c κs = search needs
+
+mul-slot : tie.Need-mul-slot
+mul-slot c = search needs
+
+array-copy-out-slot : tie.Need-array-copy-out-slot
+array-copy-out-slot c = search needs
+
+read-as-requires : tie.Need-read-as-requires
+read-as-requires c κs = search needs
+
+returns-2 : tie.Need-returns-2
+returns-2 c =
+    let found = c .before .before .before in
+    let good = found .before .before in
+    let start = good .before .before .before in
+    let place : found .slot-of .result < length (start .args .self .slots) = omega (arith, all start, c .before .before .if2 .taken) in
+    c .read-as .ensures
+    ∙ read-done (start .args .self) (start .args .cell) (refusal-is (good .before) ∙ good .if1 .left) _
+    (own-slot (start .args .cell) (start .args .self .slots) (found .slot-of .result) (found .slot-of .ensures) place)
+
+empty-slot-requires : tie.Need-empty-slot-requires
+empty-slot-requires c κs = search needs
+
+read-as-requires-2 : tie.Need-read-as-requires-2
+read-as-requires-2 c κs = search needs
+
+returns-3 : tie.Need-returns-3
+returns-3 c =
+    let found = c .before .before .before in
+    let good = found .before .before in
+    let start = good .before .before .before in
+    let past : length (start .args .self .slots) ≤ found .slot-of .result = omega (arith, all start, c .before .before .if2 .left) in
+    c .read-as2 .ensures
+    ∙ read-done (start .args .self) (start .args .cell) (refusal-is (good .before) ∙ good .if1 .left) (c .before .empty-slot .result)
+    (no-slot (start .args .cell) (start .args .self .slots) (found .slot-of .result) (found .slot-of .ensures) past ∙ sym (c .before .empty-slot .ensures))
+
+pub read-spec : {M : Type 1} → statement M
+read-spec =
+    tie.close
+    (tie.spec
+    cell-refusal-requires
+    returns
+    slot-of-requires
+    mul-slot
+    array-copy-out-slot
+    read-as-requires
+    returns-2
+    empty-slot-requires
+    read-as-requires-2
+    returns-3)

@@ -1,0 +1,187 @@
+// A running tally of power per cell: document 02, e). A tally goes in by value, and the next one comes back.
+pub mod slots;
+
+use crate::slots::CellNumbers;
+use crate::slots::SLOT_COUNT;
+use crate::slots::Slot;
+use crate::slots::empty_slot;
+use crate::slots::free_slot;
+use crate::slots::is_full;
+use crate::slots::slot_of;
+use crate::slots::with_reading;
+use cells::is_side;
+use cells::numbers_refusal;
+use readings::Reading;
+use readings::reading_refusal;
+use units::refusals::FULL_CELL;
+use units::refusals::NO_FREE_SLOT;
+use units::refusals::OUT_OF_LIMITS;
+ghost use mathlib.Core.Path.{_≡_};
+ghost use Prim.Native.Nat.{_<_};
+ghost use lib.ListN.{set};
+ghost use Rattle.tallies.specs.Tallies.{cellRefusal, made, added, cleared, readFrom, sumsIn};
+
+// Every bit pattern is a value of every field.
+#[repr(C)]
+pub struct Tally {
+    // the cells' side in cm
+    pub side: i64,
+    pub slots: [Slot; 256],
+}
+
+// What making a tally, adding to it and clearing a cell answer.
+pub enum TallyAnswer {
+    Done,
+    Refused(u8),
+}
+
+// What reading a cell answers: the sum in nanowatts, and how many readings of each kind it has.
+pub enum SumsAnswer {
+    Sums {
+        sum: u64,
+        count: u64,
+        overloads: u64,
+    },
+    Refused(u8),
+}
+
+// An answer, and the tally after the call.
+pub struct NextTally {
+    pub tally: Tally,
+    pub answer: TallyAnswer,
+}
+
+// The same of reading.
+pub struct ReadTally {
+    pub tally: Tally,
+    pub answer: SumsAnswer,
+}
+
+// The refusal of a side or of a cell that no position has; 0 is none.
+fn cell_refusal(side: i64, cell: CellNumbers) -> u8
+    ensures { λ r. ⌜ r ≡ cellRefusal side cell ⌝ }
+{
+    numbers_refusal(side, cell.east, cell.north)
+}
+
+// The tally as it is, and the refusal.
+fn refused(tally: Tally, number: u8) -> NextTally
+    ensures { λ r. ⌜ r ≡ record { tally = tally; answer = TallyAnswer.Refused number } ⌝ }
+{
+    NextTally {
+        tally,
+        answer: TallyAnswer::Refused(number),
+    }
+}
+
+// The tally with another slot at an index.
+fn with_slot(mut tally: Tally, at: usize, slot: Slot) -> NextTally
+    requires { ⌜ at < 256 ⌝ }
+    ensures { λ r. ⌜ r ≡ record { tally = record { side = tally .side; slots = set (tally .slots) at slot }; answer = TallyAnswer.Done } ⌝ }
+{
+    tally.slots[at] = slot;
+    NextTally {
+        tally,
+        answer: TallyAnswer::Done,
+    }
+}
+
+// The tally as it is, and what a slot holds.
+fn read_as(tally: Tally, slot: Slot) -> ReadTally
+    ensures { λ r. ⌜ r ≡ record { tally = tally; answer = sumsIn slot } ⌝ }
+{
+    ReadTally {
+        tally,
+        answer: SumsAnswer::Sums {
+            sum: slot.sum,
+            count: slot.count,
+            overloads: slot.overloads,
+        },
+    }
+}
+
+impl Tally {
+    // An empty tally for cells of a side.
+    pub fn new(side: i64) -> NextTally
+        ensures { λ r. ⌜ r ≡ made side ⌝ }
+    {
+        let tally = Tally {
+            side,
+            slots: [empty_slot(); 256],
+        };
+        if !is_side(side) {
+            return refused(tally, OUT_OF_LIMITS);
+        }
+        NextTally {
+            tally,
+            answer: TallyAnswer::Done,
+        }
+    }
+
+    // Adds a reading to a cell.
+    pub fn add(self, cell: CellNumbers, reading: Reading) -> NextTally
+        ensures { λ r. ⌜ r ≡ added self cell reading ⌝ }
+    {
+        let bad_cell = cell_refusal(self.side, cell);
+        if bad_cell != 0 {
+            return refused(self, bad_cell);
+        }
+        let bad_reading = reading_refusal(reading);
+        if bad_reading != 0 {
+            return refused(self, bad_reading);
+        }
+        let slots = self.slots;
+        let own = slot_of(slots, cell);
+        if own < SLOT_COUNT {
+            let slot = slots[own];
+            if is_full(slot) {
+                return refused(self, FULL_CELL);
+            }
+            return with_slot(self, own, with_reading(reading, cell, slot));
+        }
+        let free = free_slot(slots);
+        if free < SLOT_COUNT {
+            return with_slot(self, free, with_reading(reading, cell, empty_slot()));
+        }
+        refused(self, NO_FREE_SLOT)
+    }
+
+    // Frees a cell's slot, with all that it holds.
+    pub fn clear(self, cell: CellNumbers) -> NextTally
+        ensures { λ r. ⌜ r ≡ cleared self cell ⌝ }
+    {
+        let bad_cell = cell_refusal(self.side, cell);
+        if bad_cell != 0 {
+            return refused(self, bad_cell);
+        }
+        let slots = self.slots;
+        let own = slot_of(slots, cell);
+        if own < SLOT_COUNT {
+            return with_slot(self, own, empty_slot());
+        }
+        NextTally {
+            tally: self,
+            answer: TallyAnswer::Done,
+        }
+    }
+
+    // Reads a cell's sum and counts.
+    pub fn read(self, cell: CellNumbers) -> ReadTally
+        ensures { λ r. ⌜ r ≡ readFrom self cell ⌝ }
+    {
+        let bad_cell = cell_refusal(self.side, cell);
+        if bad_cell != 0 {
+            return ReadTally {
+                tally: self,
+                answer: SumsAnswer::Refused(bad_cell),
+            };
+        }
+        let slots = self.slots;
+        let own = slot_of(slots, cell);
+        if own < SLOT_COUNT {
+            let slot = slots[own];
+            return read_as(self, slot);
+        }
+        read_as(self, empty_slot())
+    }
+}

@@ -1,0 +1,35 @@
+-- `rows::clear` meets its contract: the tally is that of the call. Assumes nothing.
+use borrow.Author.Needs.{needs}
+use mathlib.Core.Path.{ap, _∙_}
+use Rattle.tallies.specs.declared.NextTally.{NextTally}
+use Rattle.tally_vectors.proofs.rows.clear.Statement.{statement}
+use Rattle.tally_vectors.proofs.rows.clear.Tie as tie
+
+slice-aggregate-print : tie.Need-slice-aggregate-print
+slice-aggregate-print c = search needs
+
+print-requires : tie.Need-print-requires
+print-requires c κs = search needs
+
+show-cell-requires : tie.Need-show-cell-requires
+show-cell-requires c κs = search needs
+
+clear-requires : tie.Need-clear-requires
+clear-requires c κs = search needs
+
+end-requires : tie.Need-end-requires
+end-requires c κs = search needs
+
+returns : tie.Need-returns
+returns c = c .end .ensures ∙ ap (λ (n : NextTally). n .tally) (c .before .clear .ensures)
+
+pub clear-spec : {M : Type 1} → statement M
+clear-spec =
+    tie.close
+    (tie.spec
+    slice-aggregate-print
+    print-requires
+    show-cell-requires
+    clear-requires
+    end-requires
+    returns)
