@@ -14,7 +14,7 @@ use Rattle.parameters.specs.ParameterSet.{setOf}
 use Rattle.pairs.specs.declared.Row.{Row}
 use Rattle.row_lists.specs.Rows.{zeros}
 use Rattle.point_lists.specs.Lists.{listRefusal, listAnswer, ListCall}
-use Rattle.tallies.specs.declared.slots.CellNumbers.{CellNumbers}
+use Rattle.slots.specs.declared.CellNumbers.{CellNumbers}
 use Rattle.tallies.specs.declared.SumsAnswer.{SumsAnswer}
 use Rattle.tallies.specs.Tallies.{sums-told}
 use Rattle.c_answers.specs.Answers.{countAfter, sumsAfter}

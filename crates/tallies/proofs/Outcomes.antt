@@ -1,28 +1,28 @@
 -- Each outcome of a call, by the tests that lead to it. Assumes nothing.
-use mathlib.Core.Path.{_≡_, refl, sym, ap, ap₂, _∙_}
-use mathlib.Core.Bool.{Bool, true, false, not, cond}
+use mathlib.Core.Path.{_≡_, refl, sym, ap, _∙_}
+use mathlib.Core.Bool.{true, false}
 use mathlib.Core.List.{List, []}
-use Prim.Native.Nat.{ℕ, zero, suc, _+_, _≤_, _<_}
-use native.Mathlib.Omega.{arith}
-use lib.Dec.{ltb}
+use Prim.Native.Nat.{ℕ, zero, suc, _≤_, _<_}
 use lib.IntN.{ℤ}
-use lib.ListN.{length, getD, set, replicate, List·getD-eq-default}
+use lib.ListN.{length, set, replicate}
 use lib.Seq.{set-out}
+use mir.Syntax.{w64}
+use mir.Val.{toZ, ofZ, SFits}
+use mir.Facts.{toZ-ofZ}
 use borrow.Author.Tests.{lt-ltb, le-ltb}
-use Rattle.units.specs.Refusals.{out-of-limits, full-cell, no-free-slot, unless, firstOf}
-use Rattle.units.specs.Answers.{answered, written}
+use Rattle.units.specs.Refusals.{out-of-limits, full-cell, no-free-slot}
 use Rattle.units.proofs.Chains.{first-given}
 use Rattle.cells.specs.Cells.{accepted-side}
 use Rattle.readings.specs.declared.Reading.{Reading}
 use Rattle.readings.specs.Readings.{readingRefusal}
-use Rattle.tallies.specs.declared.slots.CellNumbers.{CellNumbers}
-use Rattle.tallies.specs.declared.slots.Slot.{Slot}
+use Rattle.slots.specs.declared.CellNumbers.{CellNumbers}
+use Rattle.slots.specs.declared.Slot.{Slot}
+use Rattle.slots.specs.Slots.{slot-count, emptySlot, holds, indexOf, slotOf, placeOf, full, withReading}
 use Rattle.tallies.specs.declared.Tally.{Tally}
 use Rattle.tallies.specs.declared.TallyAnswer.the-variants.{Done, Refused}
 use Rattle.tallies.specs.declared.SumsAnswer.the-variants.{Refused as Unread}
 use Rattle.tallies.specs.declared.NextTally.{NextTally}
-use Rattle.tallies.specs.declared.ReadTally.{ReadTally}
-use Rattle.tallies.specs.Tallies.{slot-count, emptySlot, free, holds, indexOf, slotOf, placeOf, full, withReading, sideRefusal, cellRefusal, slotRefusal, addRefusal, next, made, added, cleared, sumsIn, readFrom}
+use Rattle.tallies.specs.Tallies.{sideRefusal, namedRefusal, slotRefusal, addRefusal, next, made, added, cleared, sumsIn, readFrom}
 
 -- ---- a call that is refused, and one that is not
 
@@ -47,29 +47,19 @@ module _ (side : ℤ) (slot : Slot) (slot-is : slot ≡ emptySlot) where
   unfolding made sideRefusal
   made-done h = rw (h, slot-is)
 
--- ---- which slot
+-- ---- the test of the cell
+
+-- the side is handed on by its bits
+pub named-is :
+    (side : ℤ) (cell : CellNumbers) {n : ℕ} →
+    SFits w64 side →
+    n ≡ namedRefusal (toZ w64 (ofZ w64 side)) cell →
+    namedRefusal side cell ≡ n
+named-is side cell fits e = sym (e ∙ ap (λ (z : ℤ). namedRefusal z cell) (toZ-ofZ fits))
+
+-- ---- the tests of the slots
 
 module _ (cell : CellNumbers) (slots : List Slot) where
-  -- the cell's own
-  module _ (at : ℕ) (at-is : at ≡ indexOf (holds cell) slots) (h : at < length slots) where
-    pub own-place : placeOf cell slots ≡ at
-    unfolding placeOf
-    own-place = rw (← at-is, lt-ltb at (length slots) h)
-
-    pub own-slot : slotOf cell slots ≡ getD slots at emptySlot
-    unfolding slotOf
-    own-slot = rw at-is
-
-  -- none
-  module _ (at : ℕ) (at-is : at ≡ indexOf (holds cell) slots) (h : length slots ≤ at) where
-    pub free-place : placeOf cell slots ≡ indexOf free slots
-    unfolding placeOf
-    free-place = rw (← at-is, le-ltb at (length slots) h)
-
-    pub no-slot : slotOf cell slots ≡ emptySlot
-    unfolding slotOf
-    no-slot = rw (← at-is) (List·getD-eq-default slots emptySlot h)
-
   pub slot-full : full (slotOf cell slots) ≡ true → slotRefusal slots cell ≡ full-cell
   unfolding slotRefusal
   slot-full h = rw h
@@ -87,18 +77,16 @@ module _ (cell : CellNumbers) (slots : List Slot) where
 module _ (tally : Tally) (cell : CellNumbers) (reading : Reading) where
   add-refused : (n : ℕ) → (n ≡ 0 → ⊥) → addRefusal tally cell reading ≡ n → refusedWith n tally ≡ added tally cell reading
   unfolding added
-  add-refused n some e =
-      let slots = set (tally .slots) (placeOf cell (tally .slots)) (withReading reading cell (slotOf cell (tally .slots))) in
-      next-refused n slots tally some ∙ ap (λ (m : ℕ). next m slots tally) (sym e)
+  add-refused n some e = rw e (next-refused n _ tally some)
 
-  pub bad-cell : (n : ℕ) → (n ≡ 0 → ⊥) → cellRefusal (tally .side) cell ≡ n → refusedWith n tally ≡ added tally cell reading
+  pub bad-cell : (n : ℕ) → (n ≡ 0 → ⊥) → namedRefusal (tally .side) cell ≡ n → refusedWith n tally ≡ added tally cell reading
   unfolding addRefusal
-  bad-cell n some e = add-refused n some (rw e (first-given n (firstOf (readingRefusal reading) (slotRefusal (tally .slots) cell)) some))
+  bad-cell n some e = add-refused n some (rw e (first-given n _ some))
 
-  module _ (good-cell : cellRefusal (tally .side) cell ≡ 0) where
+  module _ (good-cell : namedRefusal (tally .side) cell ≡ 0) where
     pub bad-reading : (n : ℕ) → (n ≡ 0 → ⊥) → readingRefusal reading ≡ n → refusedWith n tally ≡ added tally cell reading
     unfolding addRefusal
-    bad-reading n some e = add-refused n some (rw (good-cell, e) (first-given n (slotRefusal (tally .slots) cell) some))
+    bad-reading n some e = add-refused n some (rw (good-cell, e) (first-given n _ some))
 
     module _ (good-reading : readingRefusal reading ≡ 0) where
       by-slots : (n : ℕ) → slotRefusal (tally .slots) cell ≡ n → addRefusal tally cell reading ≡ n
@@ -123,14 +111,12 @@ module _ (tally : Tally) (cell : CellNumbers) (reading : Reading) where
 -- ---- clearing
 
 module _ (tally : Tally) (cell : CellNumbers) where
-  pub clear-refused : (n : ℕ) → (n ≡ 0 → ⊥) → cellRefusal (tally .side) cell ≡ n → refusedWith n tally ≡ cleared tally cell
+  pub clear-refused : (n : ℕ) → (n ≡ 0 → ⊥) → namedRefusal (tally .side) cell ≡ n → refusedWith n tally ≡ cleared tally cell
   unfolding cleared
-  clear-refused n some e =
-      let slots = set (tally .slots) (indexOf (holds cell) (tally .slots)) emptySlot in
-      next-refused n slots tally some ∙ ap (λ (m : ℕ). next m slots tally) (sym e)
+  clear-refused n some e = rw e (next-refused n _ tally some)
 
   pub clear-done :
-      cellRefusal (tally .side) cell ≡ 0 →
+      namedRefusal (tally .side) cell ≡ 0 →
       (at : ℕ) (slot : Slot) →
       at ≡ indexOf (holds cell) (tally .slots) →
       slot ≡ emptySlot →
@@ -139,7 +125,7 @@ module _ (tally : Tally) (cell : CellNumbers) where
   clear-done e at slot at-is slot-is = rw (e, at-is, slot-is)
 
   pub clear-absent :
-      cellRefusal (tally .side) cell ≡ 0 →
+      namedRefusal (tally .side) cell ≡ 0 →
       (at : ℕ) →
       at ≡ indexOf (holds cell) (tally .slots) →
       length (tally .slots) ≤ at →
@@ -149,13 +135,13 @@ module _ (tally : Tally) (cell : CellNumbers) where
 
   -- ---- reading
 
-  pub read-refused : (n : ℕ) → (n ≡ 0 → ⊥) → cellRefusal (tally .side) cell ≡ n → record { tally = tally; answer = Unread n } ≡ readFrom tally cell
+  pub read-refused : (n : ℕ) → (n ≡ 0 → ⊥) → namedRefusal (tally .side) cell ≡ n → record { tally = tally; answer = Unread n } ≡ readFrom tally cell
   unfolding readFrom
   read-refused zero some e = absurd (some refl)
   read-refused (suc n) some e = rw e
 
   pub read-done :
-      cellRefusal (tally .side) cell ≡ 0 →
+      namedRefusal (tally .side) cell ≡ 0 →
       (slot : Slot) →
       slotOf cell (tally .slots) ≡ slot →
       record { tally = tally; answer = sumsIn slot } ≡ readFrom tally cell

@@ -1,25 +1,23 @@
 // A running tally of power per cell: document 02, e). A tally goes in by value, and the next one comes back.
-pub mod slots;
-
-use crate::slots::CellNumbers;
-use crate::slots::SLOT_COUNT;
-use crate::slots::Slot;
-use crate::slots::empty_slot;
-use crate::slots::free_slot;
-use crate::slots::is_full;
-use crate::slots::slot_of;
-use crate::slots::with_reading;
 use cells::is_side;
 use cells::numbers_refusal;
 use readings::Reading;
 use readings::reading_refusal;
+use slots::CellNumbers;
+use slots::SLOT_COUNT;
+use slots::Slot;
+use slots::empty_slot;
+use slots::free_slot;
+use slots::is_full;
+use slots::slot_of;
+use slots::with_reading;
 use units::refusals::FULL_CELL;
 use units::refusals::NO_FREE_SLOT;
 use units::refusals::OUT_OF_LIMITS;
 ghost use mathlib.Core.Path.{_≡_};
 ghost use Prim.Native.Nat.{_<_};
 ghost use lib.ListN.{set};
-ghost use Rattle.tallies.specs.Tallies.{cellRefusal, made, added, cleared, readFrom, sumsIn};
+ghost use Rattle.tallies.specs.Tallies.{namedRefusal, made, added, cleared, readFrom, sumsIn};
 
 // Every bit pattern is a value of every field.
 #[repr(C)]
@@ -58,8 +56,8 @@ pub struct ReadTally {
 }
 
 // The refusal of a side or of a cell that no position has; 0 is none.
-fn cell_refusal(side: i64, cell: CellNumbers) -> u8
-    ensures { λ r. ⌜ r ≡ cellRefusal side cell ⌝ }
+fn named_refusal(side: i64, cell: CellNumbers) -> u8
+    ensures { λ r. ⌜ r ≡ namedRefusal side cell ⌝ }
 {
     numbers_refusal(side, cell.east, cell.north)
 }
@@ -122,7 +120,7 @@ impl Tally {
     pub fn add(self, cell: CellNumbers, reading: Reading) -> NextTally
         ensures { λ r. ⌜ r ≡ added self cell reading ⌝ }
     {
-        let bad_cell = cell_refusal(self.side, cell);
+        let bad_cell = named_refusal(self.side, cell);
         if bad_cell != 0 {
             return refused(self, bad_cell);
         }
@@ -150,7 +148,7 @@ impl Tally {
     pub fn clear(self, cell: CellNumbers) -> NextTally
         ensures { λ r. ⌜ r ≡ cleared self cell ⌝ }
     {
-        let bad_cell = cell_refusal(self.side, cell);
+        let bad_cell = named_refusal(self.side, cell);
         if bad_cell != 0 {
             return refused(self, bad_cell);
         }
@@ -169,7 +167,7 @@ impl Tally {
     pub fn read(self, cell: CellNumbers) -> ReadTally
         ensures { λ r. ⌜ r ≡ readFrom self cell ⌝ }
     {
-        let bad_cell = cell_refusal(self.side, cell);
+        let bad_cell = named_refusal(self.side, cell);
         if bad_cell != 0 {
             return ReadTally {
                 tally: self,

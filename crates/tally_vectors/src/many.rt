@@ -7,9 +7,9 @@ use crate::rows::make;
 use crate::rows::read;
 use cells::SIDE_100_M;
 use readings::Reading;
+use slots::CellNumbers;
 use tallies::NextTally;
 use tallies::Tally;
-use tallies::slots::CellNumbers;
 use units::refusals::NO_FREE_SLOT;
 
 const CALLS: u64 = 20_000;

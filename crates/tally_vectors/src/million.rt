@@ -6,9 +6,9 @@ use crate::rows::make;
 use crate::rows::read;
 use cells::SIDE_10_KM;
 use readings::Reading;
+use slots::CellNumbers;
+use slots::READINGS_MOST;
 use tallies::Tally;
-use tallies::slots::CellNumbers;
-use tallies::slots::READINGS_MOST;
 use units::refusals::FULL_CELL;
 
 const GREATEST: f64 = 1_000.0;

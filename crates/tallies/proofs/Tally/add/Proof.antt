@@ -4,16 +4,15 @@ use mathlib.Core.Path.{_≡_, refl, sym, ap, _∙_}
 use mathlib.Core.Bool.{false}
 use Prim.Native.Nat.{ℕ, _≤_, _<_}
 use native.Mathlib.Omega.{arith}
-use lib.IntN.{ℤ}
 use lib.ListN.{length, length-map, getD}
-use mir.Syntax.{w64}
-use mir.Facts.{toZ-ofZ}
 use Rattle.readings.specs.declared.Reading.{Reading}
 use Rattle.readings.specs.Readings.{readingRefusal}
-use Rattle.tallies.specs.declared.slots.CellNumbers.{CellNumbers}
+use Rattle.slots.specs.declared.CellNumbers.{CellNumbers}
 use Rattle.tallies.specs.declared.Tally.{Tally}
-use Rattle.tallies.specs.Tallies.{emptySlot, slotOf, full, cellRefusal}
-use Rattle.tallies.proofs.Outcomes.{own-place, own-slot, free-place, no-slot, slot-full, slot-none, bad-cell, bad-reading, bad-slot, add-done}
+use Rattle.slots.specs.Slots.{emptySlot, slotOf, full}
+use Rattle.tallies.specs.Tallies.{namedRefusal}
+use Rattle.slots.proofs.Places.{own-place, own-slot, free-place, no-slot}
+use Rattle.tallies.proofs.Outcomes.{named-is, slot-full, slot-none, bad-cell, bad-reading, bad-slot, add-done}
 use Rattle.tallies.proofs.Tally.add.Statement.{statement}
 use Rattle.tallies.proofs.Tally.add.Tie as tie
 
@@ -21,13 +20,10 @@ use Rattle.tallies.proofs.Tally.add.Tie as tie
 all : (c : tie.Start) → length (c .args .self .slots) ≡ 256
 all c = sym (length-map (c .args .self .slots) _) ∙ c .good .0 .1 .1 .1 .0 .1 .0 .1
 
-refusal-is : (c : tie.After-cell-refusal) → cellRefusal (c .before .before .args .self .side) (c .before .before .args .cell) ≡ c .cell-refusal .result
-refusal-is c =
-    let start = c .before .before in
-    let side = toZ-ofZ {w = w64} {z = start .args .self .side} (search needs) in
-    sym (c .cell-refusal .ensures ∙ ap (λ (z : ℤ). cellRefusal z (start .args .cell)) side)
+refusal-is : (c : tie.After-named-refusal) → namedRefusal (c .before .before .args .self .side) (c .before .before .args .cell) ≡ c .named-refusal .result
+refusal-is c = named-is _ _ (search needs) (c .named-refusal .ensures)
 
-good-cell : (c : tie.Else1) → cellRefusal (c .before .before .before .args .self .side) (c .before .before .before .args .cell) ≡ 0
+good-cell : (c : tie.Else1) → namedRefusal (c .before .before .before .args .self .side) (c .before .before .before .args .cell) ≡ 0
 good-cell c = refusal-is (c .before) ∙ c .if1 .left
 
 -- an empty slot is not full
@@ -61,8 +57,8 @@ module _ (c : tie.After-slot-of) where
   own : c .slot-of .result < 256 → slotOf cell (self .slots) ≡ getD (self .slots) (c .slot-of .result) emptySlot
   own h = own-slot cell (self .slots) (c .slot-of .result) (c .slot-of .ensures) (inside h)
 
-cell-refusal-requires : tie.Need-cell-refusal-requires
-cell-refusal-requires c κs = search needs
+named-refusal-requires : tie.Need-named-refusal-requires
+named-refusal-requires c κs = search needs
 
 refused-requires : tie.Need-refused-requires
 refused-requires c κs = search needs
@@ -72,7 +68,7 @@ returns c =
     let at = c .before .before in
     let start = at .before .before in
     c .refused .ensures
-    ∙ bad-cell (start .args .self) (start .args .cell) (start .args .reading) (at .cell-refusal .result) (c .before .if1 .taken) (refusal-is at)
+    ∙ bad-cell (start .args .self) (start .args .cell) (start .args .reading) (at .named-refusal .result) (c .before .if1 .taken) (refusal-is at)
 
 reading-refusal-requires : tie.Need-reading-refusal-requires
 reading-refusal-requires c κs = search needs
@@ -179,7 +175,7 @@ pub add-spec : {M : Type 1} → statement M
 add-spec =
     tie.close
     (tie.spec
-    cell-refusal-requires
+    named-refusal-requires
     refused-requires
     returns
     reading-refusal-requires

@@ -1,13 +1,10 @@
 -- `clear` meets its contract: where the cell has no slot nothing is set, as past the end. Assumes nothing.
 use borrow.Author.Needs.{needs}
-use mathlib.Core.Path.{_≡_, sym, ap, _∙_}
+use mathlib.Core.Path.{_≡_, sym, _∙_}
 use native.Mathlib.Omega.{arith}
-use lib.IntN.{ℤ}
 use lib.ListN.{length, length-map}
-use mir.Syntax.{w64}
-use mir.Facts.{toZ-ofZ}
-use Rattle.tallies.specs.Tallies.{cellRefusal}
-use Rattle.tallies.proofs.Outcomes.{clear-refused, clear-done, clear-absent}
+use Rattle.tallies.specs.Tallies.{namedRefusal}
+use Rattle.tallies.proofs.Outcomes.{named-is, clear-refused, clear-done, clear-absent}
 use Rattle.tallies.proofs.Tally.clear.Statement.{statement}
 use Rattle.tallies.proofs.Tally.clear.Tie as tie
 
@@ -15,14 +12,11 @@ use Rattle.tallies.proofs.Tally.clear.Tie as tie
 all : (c : tie.Start) → length (c .args .self .slots) ≡ 256
 all c = sym (length-map (c .args .self .slots) _) ∙ c .good .0 .1 .1 .1 .0 .1 .0 .1
 
-refusal-is : (c : tie.After-cell-refusal) → cellRefusal (c .before .before .args .self .side) (c .before .before .args .cell) ≡ c .cell-refusal .result
-refusal-is c =
-    let start = c .before .before in
-    let side = toZ-ofZ {w = w64} {z = start .args .self .side} (search needs) in
-    sym (c .cell-refusal .ensures ∙ ap (λ (z : ℤ). cellRefusal z (start .args .cell)) side)
+refusal-is : (c : tie.After-named-refusal) → namedRefusal (c .before .before .args .self .side) (c .before .before .args .cell) ≡ c .named-refusal .result
+refusal-is c = named-is _ _ (search needs) (c .named-refusal .ensures)
 
-cell-refusal-requires : tie.Need-cell-refusal-requires
-cell-refusal-requires c κs = search needs
+named-refusal-requires : tie.Need-named-refusal-requires
+named-refusal-requires c κs = search needs
 
 refused-requires : tie.Need-refused-requires
 refused-requires c κs = search needs
@@ -32,7 +26,7 @@ returns c =
     let at = c .before .before in
     let start = at .before .before in
     c .refused .ensures
-    ∙ clear-refused (start .args .self) (start .args .cell) (at .cell-refusal .result) (c .before .if1 .taken) (refusal-is at)
+    ∙ clear-refused (start .args .self) (start .args .cell) (at .named-refusal .result) (c .before .if1 .taken) (refusal-is at)
 
 slot-of-requires : tie.Need-slot-of-requires
 slot-of-requires c κs = search needs
@@ -64,4 +58,4 @@ returns-3 c =
 pub clear-spec : {M : Type 1} → statement M
 clear-spec =
     tie.close
-    (tie.spec cell-refusal-requires refused-requires returns slot-of-requires empty-slot-requires with-slot-requires returns-2 returns-3)
+    (tie.spec named-refusal-requires refused-requires returns slot-of-requires empty-slot-requires with-slot-requires returns-2 returns-3)

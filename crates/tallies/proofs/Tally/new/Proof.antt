@@ -8,7 +8,7 @@ use mir.Syntax.{w64}
 use mir.Facts.{toZ-ofZ}
 use borrow.Author.Tests.{not-true, not-false}
 use Rattle.cells.specs.Cells.{accepted-side}
-use Rattle.tallies.specs.Tallies.{slot-count}
+use Rattle.slots.specs.Slots.{slot-count}
 use Rattle.tallies.proofs.Outcomes.{refusedWith, doneWith, made-refused, made-done}
 use Rattle.tallies.proofs.Tally.new.Statement.{statement}
 use Rattle.tallies.proofs.Tally.new.Tie as tie

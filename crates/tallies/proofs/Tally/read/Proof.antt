@@ -1,14 +1,12 @@
 -- `read` meets its contract: where the cell has no slot an empty one is read. Assumes nothing.
 use borrow.Author.Needs.{needs}
-use mathlib.Core.Path.{_≡_, sym, ap, _∙_}
+use mathlib.Core.Path.{_≡_, sym, _∙_}
 use Prim.Native.Nat.{_≤_, _<_}
 use native.Mathlib.Omega.{arith}
-use lib.IntN.{ℤ}
 use lib.ListN.{length, length-map}
-use mir.Syntax.{w64}
-use mir.Facts.{toZ-ofZ}
-use Rattle.tallies.specs.Tallies.{cellRefusal}
-use Rattle.tallies.proofs.Outcomes.{own-slot, no-slot, read-refused, read-done}
+use Rattle.tallies.specs.Tallies.{namedRefusal}
+use Rattle.slots.proofs.Places.{own-slot, no-slot}
+use Rattle.tallies.proofs.Outcomes.{named-is, read-refused, read-done}
 use Rattle.tallies.proofs.Tally.read.Statement.{statement}
 use Rattle.tallies.proofs.Tally.read.Tie as tie
 
@@ -16,20 +14,17 @@ use Rattle.tallies.proofs.Tally.read.Tie as tie
 all : (c : tie.Start) → length (c .args .self .slots) ≡ 256
 all c = sym (length-map (c .args .self .slots) _) ∙ c .good .0 .1 .1 .1 .0 .1 .0 .1
 
-refusal-is : (c : tie.After-cell-refusal) → cellRefusal (c .before .before .args .self .side) (c .before .before .args .cell) ≡ c .cell-refusal .result
-refusal-is c =
-    let start = c .before .before in
-    let side = toZ-ofZ {w = w64} {z = start .args .self .side} (search needs) in
-    sym (c .cell-refusal .ensures ∙ ap (λ (z : ℤ). cellRefusal z (start .args .cell)) side)
+refusal-is : (c : tie.After-named-refusal) → namedRefusal (c .before .before .args .self .side) (c .before .before .args .cell) ≡ c .named-refusal .result
+refusal-is c = named-is _ _ (search needs) (c .named-refusal .ensures)
 
-cell-refusal-requires : tie.Need-cell-refusal-requires
-cell-refusal-requires c κs = search needs
+named-refusal-requires : tie.Need-named-refusal-requires
+named-refusal-requires c κs = search needs
 
 returns : tie.Need-returns
 returns c =
     let at = c .before in
     let start = at .before .before in
-    read-refused (start .args .self) (start .args .cell) (at .cell-refusal .result) (c .if1 .taken) (refusal-is at)
+    read-refused (start .args .self) (start .args .cell) (at .named-refusal .result) (c .if1 .taken) (refusal-is at)
 
 slot-of-requires : tie.Need-slot-of-requires
 slot-of-requires c κs = search needs
@@ -73,7 +68,7 @@ pub read-spec : {M : Type 1} → statement M
 read-spec =
     tie.close
     (tie.spec
-    cell-refusal-requires
+    named-refusal-requires
     returns
     slot-of-requires
     mul-slot

@@ -1,0 +1,9 @@
+-- The modules of the proofs, in the order in which they build on each other.
+pub mod Lists
+pub mod Cells
+pub mod Slots
+pub mod Placing
+pub mod Sums
+pub mod Calls
+pub mod Invariant
+pub mod Histories

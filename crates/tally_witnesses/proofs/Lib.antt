@@ -1,0 +1,2 @@
+pub mod FullCell
+pub mod Witnesses
