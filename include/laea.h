@@ -1,7 +1,7 @@
 /*
  * Lambert Azimuthal Equal-Area (EPSG method 9820): latitude and longitude to easting and northing,
- * and back, one point or a list at a time; the map cell that a position lies in; and the code of a
- * cell. For C and C++.
+ * and back, one point or a list at a time; the map cell that a position lies in; the code of a cell;
+ * and a tally of the power received in each cell. For C and C++.
  *
  *     double out[2];
  *     uint8_t refusal = laea_forward(LAEA_ETRS_LAEA, 50.0, 5.0, out);
@@ -16,7 +16,8 @@
  * Units. Two layers give the same answers: double, in degrees and metres; and whole numbers, in
  * milliarcseconds (mas; one degree is 3,600,000 mas) and centimetres (cm). A double that is put in
  * is rounded to the nearest mas or cm, halves away from zero; an answer is the whole number divided
- * by 3,600,000 or 100. North and east are positive.
+ * by 3,600,000 or 100. North and east are positive. A power is put in as a double in milliwatts (mW),
+ * rounded to the nearest nanowatt (nW; one mW is 1,000,000 nW), halves up, and summed in whole nW.
  *
  * Accuracy. An answer is that of the whole-number steps, to the last unit; the steps themselves are
  * not the exact projection. Measured against PROJ for ETRS-LAEA, a forward answer is at most 0.16 m
@@ -29,9 +30,10 @@
  * Refusals. Every value of every argument is taken, NaN and infinity too, and is answered or refused
  * with a number. The first that applies is told: of a single point 11 to 16, 2, 3, 4 in this order; of
  * a list call 5, 6, 11 to 16, and then of each point 2, 3, 4; of a code to be written 3, 32, 33, and
- * of a text to be read as one 31. Both coordinates are tested for 2 before either is for 3, and both
- * cell numbers for 3 before either is for 32. The limits of 3 are tested on the double itself, before
- * it is rounded.
+ * of a text to be read as one 31; of a reading to be added to a tally 3, 41, 42, 43, 44, and of its
+ * other calls 3. Both coordinates are tested for 2 before either is for 3, and both cell numbers for 3
+ * before either is for 32. The limits of 3 and 42 are tested on the double itself, before it is
+ * rounded.
  *
  *   2  LAEA_NOT_FINITE     a coordinate is NaN or infinite
  *   3  LAEA_OUT_OF_LIMITS  a latitude beyond 90 or a longitude beyond 180 degrees, either side of 0;
@@ -59,22 +61,30 @@
  *   32  LAEA_NEGATIVE_CELL  a cell number is negative: such a cell has no code
  *   33  LAEA_LITTLE_ROOM    fewer bytes are lent than this code has
  *
+ * and of a tally:
+ *
+ *   41  LAEA_POWER_NOT_FINITE     the power of a reading is NaN or infinite
+ *   42  LAEA_POWER_OUT_OF_LIMITS  the power of a reading is below 0 or above 1,000 mW
+ *   43  LAEA_FULL_CELL            the cell has LAEA_READINGS_MOST readings, of both kinds together
+ *   44  LAEA_NO_FREE_SLOT         the cell has no slot in the tally, and none is free
+ *
  * A refused call writes nothing: neither `out`, nor an element of a list, nor a byte of a text, nor
- * the count or the length.
+ * the count or the length, nor the tally. Only laea_tally_new makes its tally in any case.
  *
  * What the caller owes, since nothing can test it:
- *   - `out` points to as many elements as its declaration says, `count` and `length` to one; a list
- *     or a text points to as many elements as the length after it says. All stay valid for the whole
- *     call, and no other thread writes them.
+ *   - `out` points to as many elements as its declaration says, `count`, `length` and `tally` to one; a
+ *     list or a text points to as many elements as the length after it says. All stay valid for the
+ *     whole call, and no other thread writes them.
  *   - None is null, but a list or a text whose length is 0 may be.
  *   - Each pointer is aligned as its type asks.
+ *   - A tally that a call reads has a value: laea_tally_new gives it one.
  *   - What a call may write (`out`; the two lists of answers, the marks, the count; the bytes lent for
- *     a code, its length) overlaps nothing else that the call is given. The two lists that a call only
- *     reads may be one.
+ *     a code, its length; the tally) overlaps nothing else that the call is given. The two lists that a
+ *     call only reads may be one.
  *
  * Threads. Any number of threads may call at once, each with its own places to write.
  *
- * Stack. A call takes less than 32 KB of the caller's stack.
+ * Stack. A call takes less than 32 KB of the caller's stack, one on a tally less than 96 KB.
  *
  * One point or a list. Each forward or inverse call, single or list, copies a table of sines (22 KB,
  * about 0.5 microseconds) and works out the constants of its set. A single call pays that for one
@@ -84,8 +94,8 @@
  * Platform: x86-64 Linux, for which the archive is compiled.
  *
  * Versions. LAEA_VERSION is this header's, laea_version() the archive's. The functions' names in the
- * archive hold the number of the set's layout (laea1_forward): a program that was compiled against
- * a header with another layout does not link.
+ * archive hold the number of the layouts of the set and the tally (laea1_forward): a program that was
+ * compiled against a header with another layout does not link.
  */
 #ifndef LAEA_H
 #define LAEA_H
@@ -97,8 +107,8 @@
 extern "C" {
 #endif
 
-/* 10,000 times the major number, 100 times the minor one, and the patch: 0.5.0. */
-#define LAEA_VERSION 500
+/* 10,000 times the major number, 100 times the minor one, and the patch: 0.6.0. */
+#define LAEA_VERSION 600
 
 /* What a call returns, and what a point's mark is. */
 #define LAEA_OK 0
@@ -116,12 +126,22 @@ extern "C" {
 #define LAEA_NOT_A_CODE 31
 #define LAEA_NEGATIVE_CELL 32
 #define LAEA_LITTLE_ROOM 33
+#define LAEA_POWER_NOT_FINITE 41
+#define LAEA_POWER_OUT_OF_LIMITS 42
+#define LAEA_FULL_CELL 43
+#define LAEA_NO_FREE_SLOT 44
 
 /* The most points that a list call takes. */
 #define LAEA_LIST_MOST 4096
 
 /* The most bytes that a code has: those of cells of 100 m have up to 18, of 1 km 15, of 10 km 14. */
 #define LAEA_CODE_MOST 18
+
+/* How many slots a tally has. */
+#define LAEA_SLOT_COUNT 256
+
+/* The most readings of both kinds together that a tally takes of a cell. */
+#define LAEA_READINGS_MOST 1000000
 
 /*
  * The parameter set. Copy an accepted set and assign the fields that differ:
@@ -276,6 +296,144 @@ uint8_t laea_write_code(int64_t side, int64_t east, int64_t north,
  */
 uint8_t laea_read_code(const char *text, size_t text_length, int64_t out[3]);
 
+/*
+ * A tally of the power received in each cell. It is of one side and has LAEA_SLOT_COUNT slots; each
+ * holds, for one cell, the sum of its power readings in nW, their count, and the count of its overload
+ * readings.
+ *
+ * A reading is a power in mW, from 0 to 1,000 (-0.0 is 0); or it says that the receiver was overloaded,
+ * and carries the last good power. That power is tested as the other is, and not summed, and the
+ * reading is left out of the count of power readings. A cell takes up to LAEA_READINGS_MOST readings of
+ * both kinds together, so that a sum is at most 1,000,000,000,000,000 nW.
+ *
+ *     laea_tally tally;
+ *     uint64_t out[3];
+ *     uint8_t refusal = laea_tally_new(&tally, 100000);
+ *     if (refusal == LAEA_OK)
+ *         refusal = laea_tally_add_power(&tally, 3962, 2999, 0.25);
+ *     if (refusal == LAEA_OK)
+ *         refusal = laea_tally_read(&tally, 3962, 2999, out);
+ *     if (refusal == LAEA_OK && out[1] != 0)
+ *         printf("mean %.6f mW\n", (double)out[0] / (double)out[1] / 1e6);
+ *
+ * A cell that has no reading, or overload readings alone, has no mean: divide the sum by the count only
+ * where the count is not 0.
+ *
+ * The result is LAEA_OK or the refusal number. A refused call leaves the tally as it was; only
+ * laea_tally_new makes one in any case. Every call is refused 3 for cell numbers that laea_cell cannot
+ * give for the tally's side, and on a tally whose side is not one of the three.
+ *
+ * A tally has 12,296 bytes and may be copied and stored. Every field is a number of which every bit
+ * pattern is a value, so that a tally whose bytes were damaged is answered too, without undefined
+ * behaviour. What is said of sums and counts holds of tallies that these calls gave.
+ *
+ * Each call copies the tally: adding takes one to two microseconds, reading less than one.
+ */
+
+/* A cell's numbers, as laea_cell gives them. */
+typedef struct laea_cell_numbers {
+    int64_t east;
+    int64_t north;
+} laea_cell_numbers;
+
+/* What a tally holds of one cell; all 0 where the slot is free. */
+typedef struct laea_slot {
+    laea_cell_numbers cell;
+    /* of the power readings, in nW */
+    uint64_t sum;
+    /* how many power readings */
+    uint64_t count;
+    /* how many overload readings */
+    uint64_t overloads;
+    /* 0 where the slot is free, any other number where it is held */
+    uint64_t held;
+} laea_slot;
+
+typedef struct laea_tally {
+    /* of the cells, in cm: 10,000, 100,000 or 1,000,000 */
+    int64_t side;
+    laea_slot slots[LAEA_SLOT_COUNT];
+} laea_tally;
+
+/* The tally after a call, and LAEA_OK or the refusal number. */
+typedef struct laea_tally_result {
+    laea_tally tally;
+    uint8_t refusal;
+} laea_tally_result;
+
+/*
+ * The archive's functions take a tally and give the next one. A refused call gives the tally that was
+ * put in. The functions after them do the same to a tally in its place.
+ */
+laea_tally_result laea1_tally_new(int64_t side);
+laea_tally_result laea1_tally_add_power(laea_tally tally, int64_t east, int64_t north,
+                                        double milliwatts);
+laea_tally_result laea1_tally_add_overload(laea_tally tally, int64_t east, int64_t north,
+                                           double milliwatts);
+laea_tally_result laea1_tally_clear(laea_tally tally, int64_t east, int64_t north);
+uint8_t laea1_tally_read(laea_tally tally, int64_t east, int64_t north, uint64_t out[3]);
+
+/*
+ * Makes an empty tally for cells of a side in cm. Refused 3; the tally is then empty too and of the
+ * side asked, and every call on it is refused 3.
+ */
+static inline uint8_t laea_tally_new(laea_tally *tally, int64_t side)
+{
+    laea_tally_result made = laea1_tally_new(side);
+
+    *tally = made.tally;
+    return made.refusal;
+}
+
+/*
+ * Adds a power reading to a cell. It goes into the cell's slot; a cell without one gets the first that
+ * is free. Refused 3, 41, 42, 43, 44.
+ */
+static inline uint8_t laea_tally_add_power(laea_tally *tally, int64_t east, int64_t north,
+                                           double milliwatts)
+{
+    laea_tally_result next = laea1_tally_add_power(*tally, east, north, milliwatts);
+
+    if (next.refusal == LAEA_OK)
+        *tally = next.tally;
+    return next.refusal;
+}
+
+/* The same of an overload reading, with the last good power. Refused 3, 41, 42, 43, 44. */
+static inline uint8_t laea_tally_add_overload(laea_tally *tally, int64_t east, int64_t north,
+                                              double milliwatts)
+{
+    laea_tally_result next = laea1_tally_add_overload(*tally, east, north, milliwatts);
+
+    if (next.refusal == LAEA_OK)
+        *tally = next.tally;
+    return next.refusal;
+}
+
+/*
+ * Clears a cell: all that it has is forgotten, and its slot is free. A cell that has no slot is cleared
+ * without a change. Refused 3.
+ */
+static inline uint8_t laea_tally_clear(laea_tally *tally, int64_t east, int64_t north)
+{
+    laea_tally_result next = laea1_tally_clear(*tally, east, north);
+
+    if (next.refusal == LAEA_OK)
+        *tally = next.tally;
+    return next.refusal;
+}
+
+/*
+ * Reads a cell: out is the sum of its power readings in nW, their count, and the count of its overload
+ * readings, all since it was last cleared; three zeros where it has no slot. Refused 3, and then out is
+ * as it was.
+ */
+static inline uint8_t laea_tally_read(const laea_tally *tally, int64_t east, int64_t north,
+                                      uint64_t out[3])
+{
+    return laea1_tally_read(*tally, east, north, out);
+}
+
 /* Whether a set is accepted: LAEA_OK, or the number of the first field that is outside its range. */
 uint8_t laea_set_refusal(laea_set set);
 
@@ -316,6 +474,14 @@ static inline const char *laea_refusal_text(uint8_t number)
         return "a cell number is negative: such a cell has no code";
     case LAEA_LITTLE_ROOM:
         return "fewer bytes are lent than the code has";
+    case LAEA_POWER_NOT_FINITE:
+        return "the power is NaN or infinite";
+    case LAEA_POWER_OUT_OF_LIMITS:
+        return "the power is below 0 or above 1,000 mW";
+    case LAEA_FULL_CELL:
+        return "the cell has 1,000,000 readings";
+    case LAEA_NO_FREE_SLOT:
+        return "the cell has no slot, and none of the 256 is free";
     default:
         return "unknown refusal number";
     }

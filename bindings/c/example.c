@@ -143,6 +143,106 @@ static void no_bytes(void)
            read, out[0], out[1], out[2], written, length);
 }
 
+static void told(const char *what, uint8_t refusal)
+{
+    printf("%s: %d, %s\n", what, refusal, laea_refusal_text(refusal));
+}
+
+/* What a tally has of a cell; a cell without a power reading has no mean. */
+static void read_cell(const laea_tally *tally, int64_t east, int64_t north)
+{
+    uint64_t out[3];
+    uint8_t refusal = laea_tally_read(tally, east, north, out);
+
+    printf("tally's cell %" PRId64 " %" PRId64 ": ", east, north);
+    if (refusal != LAEA_OK) {
+        printf("refused %d: %s\n", refusal, laea_refusal_text(refusal));
+        return;
+    }
+    printf("sum %" PRIu64 " nW, count %" PRIu64 ", overloads %" PRIu64 ", ", out[0], out[1], out[2]);
+    if (out[1] != 0)
+        printf("mean %.7f mW\n", (double)out[0] / (double)out[1] / 1e6);
+    else
+        printf("no mean\n");
+}
+
+/* From a position in mas to its cell: an overload, two powers, and what the cell then has. */
+static void readings(laea_set set, int64_t latitude, int64_t longitude)
+{
+    laea_tally tally;
+    int64_t plane[2], cell[2];
+    uint8_t refusal = laea_tally_new(&tally, 100000);
+
+    if (refusal == LAEA_OK)
+        refusal = laea_forward_whole(set, latitude, longitude, plane);
+    if (refusal == LAEA_OK)
+        refusal = laea_cell(tally.side, plane[0], plane[1], cell);
+    if (refusal != LAEA_OK) {
+        told("readings", refusal);
+        return;
+    }
+    read_cell(&tally, cell[0], cell[1]);
+    told("overload after 12.5 mW", laea_tally_add_overload(&tally, cell[0], cell[1], 12.5));
+    read_cell(&tally, cell[0], cell[1]);
+    told("power 0.25 mW", laea_tally_add_power(&tally, cell[0], cell[1], 0.25));
+    told("power 1/128 mW", laea_tally_add_power(&tally, cell[0], cell[1], 1.0 / 128));
+    read_cell(&tally, cell[0], cell[1]);
+}
+
+/* Readings that are refused leave the tally as it was. */
+static void refused_readings(void)
+{
+    laea_tally tally, before;
+
+    told("tally of 10 km", laea_tally_new(&tally, 1000000));
+    told("power -0.0 mW", laea_tally_add_power(&tally, 5000, -5000, -0.0));
+    told("power 1000 mW", laea_tally_add_power(&tally, 5000, -5000, 1000.0));
+    before = tally;
+    told("cell beyond the last", laea_tally_add_power(&tally, 5001, 0, 1.0));
+    told("power NaN", laea_tally_add_power(&tally, 5000, -5000, NAN));
+    told("overload after infinite power", laea_tally_add_overload(&tally, 5000, -5000, INFINITY));
+    told("power below 0", laea_tally_add_power(&tally, 5000, -5000, -5e-324));
+    told("overload after 1000.5 mW", laea_tally_add_overload(&tally, 5000, -5000, 1000.5));
+    printf("the tally's %d bytes: %s\n", (int)sizeof tally,
+           memcmp(&tally, &before, sizeof tally) == 0 ? "as before" : "changed");
+    read_cell(&tally, 5000, -5000);
+    read_cell(&tally, 5000, -5001);
+}
+
+/* A tally without a free slot: a cell of its own is added to, another gets the slot of one cleared. */
+static void slots(void)
+{
+    laea_tally tally;
+    uint8_t refusal = laea_tally_new(&tally, 10000);
+
+    for (int64_t east = 0; refusal == LAEA_OK && east < LAEA_SLOT_COUNT; east++)
+        refusal = laea_tally_add_power(&tally, east, -1, 1.0);
+    told("a power for each of 256 cells", refusal);
+    told("power for another cell", laea_tally_add_power(&tally, -7, -1, 2.0));
+    told("power for a cell that has a slot", laea_tally_add_power(&tally, 9, -1, 2.0));
+    told("cell that has no slot cleared", laea_tally_clear(&tally, -7, -1));
+    told("cell cleared", laea_tally_clear(&tally, 8, -1));
+    told("power for another cell", laea_tally_add_power(&tally, -7, -1, 2.0));
+    read_cell(&tally, 8, -1);
+    read_cell(&tally, 9, -1);
+    read_cell(&tally, -7, -1);
+    printf("slot 8 is of cell %" PRId64 " %" PRId64 "\n", tally.slots[8].cell.east,
+           tally.slots[8].cell.north);
+}
+
+/* A tally of a side that no cell has: it is empty, and every call on it is refused. */
+static void other_side(void)
+{
+    laea_tally tally;
+
+    told("tally of 500 m", laea_tally_new(&tally, 50000));
+    printf("its side is %" PRId64 " cm\n", tally.side);
+    told("power", laea_tally_add_power(&tally, 0, 0, 1.0));
+    told("overload", laea_tally_add_overload(&tally, 0, 0, 1.0));
+    told("clear", laea_tally_clear(&tally, 0, 0));
+    read_cell(&tally, 0, 0);
+}
+
 /* Sets with a wrong field: each call tells the first. */
 static void wrong_fields(void)
 {
@@ -242,6 +342,10 @@ int main(void)
     read_code("1kmN02999E3962");
     read_code("1kmN2999E3962 ");
     no_bytes();
+    readings(LAEA_ETRS_LAEA, 180000000, 18000000);
+    refused_readings();
+    slots();
+    other_side();
     printf("refusal 7: %s\n", laea_refusal_text(7));
     return 0;
 }

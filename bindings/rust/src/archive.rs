@@ -1,7 +1,46 @@
-//! The functions of `liblaea_c.a`, as `include/laea.h` declares them. Plane coordinates in metres
-//! are named by place, as in the Rattle code; the header names what stands there.
+//! The functions of `liblaea_c.a`, as `include/laea.h` declares them, with the types of a tally.
+//! Plane coordinates in metres are named by place, as in the Rattle code; the header names what
+//! stands there.
 
-use crate::Set;
+use crate::{Set, SLOT_COUNT};
+
+/// A cell's numbers along the two axes.
+#[derive(Clone, Copy, Debug, PartialEq, Eq)]
+#[repr(C)]
+pub struct CellNumbers {
+    pub east: i64,
+    pub north: i64,
+}
+
+/// What a tally holds of one cell.
+#[derive(Clone, Copy, Debug, PartialEq, Eq)]
+#[repr(C)]
+pub struct Slot {
+    pub cell: CellNumbers,
+    /// In nanowatts.
+    pub sum: u64,
+    pub count: u64,
+    pub overloads: u64,
+    /// 0 where the slot is free, any other number where it is held.
+    pub held: u64,
+}
+
+/// Every bit pattern is a value of every field.
+#[derive(Clone, Copy, Debug, PartialEq, Eq)]
+#[repr(C)]
+pub struct Tally {
+    /// The cells' side in cm.
+    pub side: i64,
+    pub slots: [Slot; SLOT_COUNT],
+}
+
+/// The tally after a call, and the refusal's number; 0 is none.
+#[derive(Clone, Copy, Debug)]
+#[repr(C)]
+pub struct TallyResult {
+    pub tally: Tally,
+    pub refusal: u8,
+}
 
 extern "C" {
     pub fn laea1_forward(set: Set, latitude: f64, longitude: f64, out: *mut [f64; 2]) -> u8;
@@ -54,6 +93,26 @@ extern "C" {
     ) -> u8;
 
     pub fn laea1_read_code(text: *const u8, text_length: usize, out: *mut [i64; 3]) -> u8;
+
+    pub fn laea1_tally_new(side: i64) -> TallyResult;
+
+    pub fn laea1_tally_add_power(
+        tally: Tally,
+        east: i64,
+        north: i64,
+        milliwatts: f64,
+    ) -> TallyResult;
+
+    pub fn laea1_tally_add_overload(
+        tally: Tally,
+        east: i64,
+        north: i64,
+        milliwatts: f64,
+    ) -> TallyResult;
+
+    pub fn laea1_tally_clear(tally: Tally, east: i64, north: i64) -> TallyResult;
+
+    pub fn laea1_tally_read(tally: Tally, east: i64, north: i64, out: *mut [u64; 3]) -> u8;
 
     pub fn laea1_set_refusal(set: Set) -> u8;
 

@@ -4,8 +4,8 @@
 //! centres, on the sphere and on the ellipsoid. The work is done by the archive `liblaea_c.a`,
 //! whose functions are written and proved in Rattle; this crate gives them Rust's types and adds
 //! nothing to the answers. Every input is answered: with finite numbers, or with a [`Refusal`].
-//! [`cell`] tells the map cell that a position lies in, and [`GridCode`] writes and reads a cell's
-//! code.
+//! [`cell`] tells the map cell that a position lies in, [`GridCode`] writes and reads a cell's code,
+//! and [`Tally`] sums the power received in each cell.
 //!
 //! ```
 //! use laea::{Position, Set};
@@ -27,6 +27,7 @@
 //! Inside, angles are whole milliarcseconds (mas, 3,600,000 to the degree) and lengths whole
 //! centimetres. The calls on `f64` take degrees and metres, round their exact values to these
 //! units, halves away from zero, and give back the whole answer divided once by 3,600,000 or 100.
+//! Powers are put in as milliwatts in `f64`, and rounded to whole nanowatts and summed as these.
 //!
 //! # Accuracy
 //!
@@ -38,8 +39,9 @@
 //! # Calls
 //!
 //! The calls keep no state, allocate nothing, do not panic and may be made from several threads at
-//! once; each takes less than 32 KB of stack. A call for one point copies the table of sines, about
-//! 0.5 µs, and a call for lists copies it once: use lists for more than a few points.
+//! once; each takes less than 32 KB of stack, one on a tally less than 96 KB. A call for one point
+//! copies the table of sines, about 0.5 µs, and a call for lists copies it once: use lists for more
+//! than a few points.
 //!
 //! The crate needs no `std`. The archive is for x86-64 Linux.
 
@@ -55,6 +57,7 @@ mod positions;
 mod refusal;
 mod set;
 mod single;
+mod tally;
 
 pub use cells::{cell, Cell, Side};
 pub use codes::{GridCode, CODE_MOST};
@@ -62,14 +65,15 @@ pub use lists::LIST_MOST;
 pub use positions::{PlanePosition, Position, WholePlanePosition, WholePosition};
 pub use refusal::Refusal;
 pub use set::Set;
+pub use tally::{CellSums, Reading, Tally, READINGS_MOST, SLOT_COUNT};
 
 /// The examples of the README are run with the tests.
 #[cfg(doctest)]
 #[doc = include_str!("../README.md")]
 struct Readme;
 
-/// The version of this crate as one number: 500 is 0.5.0.
-pub const VERSION: u32 = 500;
+/// The version of this crate as one number: 600 is 0.6.0.
+pub const VERSION: u32 = 600;
 
 /// The version of the archive that is linked, as one number like [`VERSION`].
 ///

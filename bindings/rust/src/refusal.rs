@@ -7,8 +7,9 @@ use core::fmt;
 ///
 /// The names are those of `include/laea.h`. The first that applies is told: of a single point 11 to
 /// 16, 2, 3, 4 in this order; of a list call 5, 6, 11 to 16, and then of each point 2, 3, 4; of a
-/// code to be written 3, 32, 33, and of a text to be read as one 31. Both coordinates are tested for
-/// 2 before either is for 3, and both cell numbers for 3 before either is for 32.
+/// code to be written 3, 32, 33, and of a text to be read as one 31; of a reading to be added to a
+/// tally 3, 41, 42, 43, 44, and of its other calls 3. Both coordinates are tested for 2 before either
+/// is for 3, and both cell numbers for 3 before either is for 32.
 ///
 /// ```
 /// use laea::{Position, Refusal, Set};
@@ -51,6 +52,14 @@ pub enum Refusal {
     NegativeCell,
     /// 33: fewer bytes are lent than this code has.
     LittleRoom,
+    /// 41: the power of a reading is NaN or infinite.
+    PowerNotFinite,
+    /// 42: the power of a reading is below 0 or above 1,000 mW.
+    PowerOutOfLimits,
+    /// 43: the cell has [`READINGS_MOST`](crate::READINGS_MOST) readings, of both kinds together.
+    FullCell,
+    /// 44: the cell has no slot in the tally, and none is free.
+    NoFreeSlot,
     /// A number that this version of the crate has no name for.
     Unknown(u8),
 }
@@ -83,6 +92,10 @@ impl Refusal {
             31 => Refusal::NotACode,
             32 => Refusal::NegativeCell,
             33 => Refusal::LittleRoom,
+            41 => Refusal::PowerNotFinite,
+            42 => Refusal::PowerOutOfLimits,
+            43 => Refusal::FullCell,
+            44 => Refusal::NoFreeSlot,
             unknown => Refusal::Unknown(unknown),
         })
     }
@@ -104,6 +117,10 @@ impl Refusal {
             Refusal::NotACode => 31,
             Refusal::NegativeCell => 32,
             Refusal::LittleRoom => 33,
+            Refusal::PowerNotFinite => 41,
+            Refusal::PowerOutOfLimits => 42,
+            Refusal::FullCell => 43,
+            Refusal::NoFreeSlot => 44,
             Refusal::Unknown(number) => number,
         }
     }
@@ -135,6 +152,10 @@ impl Refusal {
             Refusal::NotACode => "the text is not the code of a cell",
             Refusal::NegativeCell => "a cell number is negative: such a cell has no code",
             Refusal::LittleRoom => "fewer bytes are lent than the code has",
+            Refusal::PowerNotFinite => "the power is NaN or infinite",
+            Refusal::PowerOutOfLimits => "the power is below 0 or above 1,000 mW",
+            Refusal::FullCell => "the cell has 1,000,000 readings",
+            Refusal::NoFreeSlot => "the cell has no slot, and none of the 256 is free",
             Refusal::Unknown(_) => "unknown refusal number",
         }
     }
@@ -171,7 +192,7 @@ mod tests {
             let refusal = answer(number, ()).unwrap_err();
             assert_eq!(Refusal::from_number(number), Some(refusal));
             assert_eq!(refusal.number(), number);
-            let known = matches!(number, 2..=6 | 11..=16 | 31..=33);
+            let known = matches!(number, 2..=6 | 11..=16 | 31..=33 | 41..=44);
             assert_eq!(refusal == Refusal::Unknown(number), !known);
             assert!(refusal
                 .to_string()

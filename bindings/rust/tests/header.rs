@@ -65,6 +65,10 @@ fn numbers() {
     assert_eq!(defined(&header, "LAEA_VERSION"), laea::VERSION);
     assert_eq!(defined(&header, "LAEA_LIST_MOST") as usize, laea::LIST_MOST);
     assert_eq!(defined(&header, "LAEA_CODE_MOST") as usize, laea::CODE_MOST);
+    let slots = defined(&header, "LAEA_SLOT_COUNT") as usize;
+    assert_eq!(slots, laea::SLOT_COUNT);
+    let readings = u64::from(defined(&header, "LAEA_READINGS_MOST"));
+    assert_eq!(readings, laea::READINGS_MOST);
 }
 
 #[test]

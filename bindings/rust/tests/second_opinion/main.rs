@@ -24,6 +24,11 @@ mod sets;
 mod single;
 mod steps;
 mod table;
+mod tallies;
+mod tally_calls;
+mod tally_engines;
+mod tally_rules;
+mod tally_states;
 
-/// The type that the declarations name.
-use laea::Set;
+/// What the declarations name.
+use laea::{Set, SLOT_COUNT};

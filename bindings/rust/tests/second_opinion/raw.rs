@@ -1,10 +1,11 @@
 //! The archive's calls without the safe wrapper, so that what a refused call leaves untouched can be
 //! looked at, and so that lists can be null pointers and sides any number.
 
-use crate::archive;
+use crate::archive::{self, Tally, TallyResult};
 use crate::calls::{Direction, Lists};
 use crate::code_rules::Code;
 use crate::steps::Set;
+use crate::tally_rules::Kind;
 use std::ops::Range;
 use std::ptr::{null, null_mut};
 
@@ -158,4 +159,33 @@ pub fn read_code(text: Option<&[u8]>, places: &mut CodePlaces) -> u8 {
     // SAFETY: the pointer and length are a slice's, or null and 0, which the header allows, and
     // the last argument is three places that may be written.
     unsafe { archive::laea1_read_code(bytes, length, places[1..4].as_mut_ptr().cast()) }
+}
+
+/// The places lent for a cell's sum and counts are the middle three of five; the outer two must stay
+/// as they are.
+pub type SumPlaces = [u64; 5];
+
+pub fn tally_new(side: i64) -> TallyResult {
+    // SAFETY: the call takes every number and writes nothing but its result.
+    unsafe { archive::laea1_tally_new(side) }
+}
+
+pub fn tally_add(tally: &Tally, cell: (i64, i64), kind: Kind, milliwatts: f64) -> TallyResult {
+    let call = match kind {
+        Kind::Power => archive::laea1_tally_add_power,
+        Kind::Overload => archive::laea1_tally_add_overload,
+    };
+    // SAFETY: the call takes every value of its arguments and writes nothing but its result.
+    unsafe { call(*tally, cell.0, cell.1, milliwatts) }
+}
+
+pub fn tally_clear(tally: &Tally, cell: (i64, i64)) -> TallyResult {
+    // SAFETY: the call takes every value of its arguments and writes nothing but its result.
+    unsafe { archive::laea1_tally_clear(*tally, cell.0, cell.1) }
+}
+
+pub fn tally_read(tally: &Tally, cell: (i64, i64), places: &mut SumPlaces) -> u8 {
+    let out = places[1..4].as_mut_ptr().cast();
+    // SAFETY: the last argument is three places that may be written.
+    unsafe { archive::laea1_tally_read(*tally, cell.0, cell.1, out) }
 }
