@@ -10,14 +10,15 @@
  *     else
  *         printf("refused: %s\n", laea_refusal_text(refusal));
  *
- * The functions stand in the archive liblaea_c.a. They keep no state, allocate nothing, read and
- * write nothing but their arguments, and always return.
+ * The functions stand in the archive liblaea_c.a, but for the inline ones below, which call these. They
+ * keep no state, allocate nothing, read and write nothing but their arguments, and always return.
  *
  * Units. Two layers give the same answers: double, in degrees and metres; and whole numbers, in
  * milliarcseconds (mas; one degree is 3,600,000 mas) and centimetres (cm). A double that is put in
  * is rounded to the nearest mas or cm, halves away from zero; an answer is the whole number divided
  * by 3,600,000 or 100. North and east are positive. A power is put in as a double in milliwatts (mW),
- * rounded to the nearest nanowatt (nW; one mW is 1,000,000 nW), halves up, and summed in whole nW.
+ * rounded to the nearest nanowatt (nW; one mW is 1,000,000 nW), halves away from zero,
+ * and summed in whole nW.
  *
  * Accuracy. An answer is that of the whole-number steps, to the last unit; the steps themselves are
  * not the exact projection. Measured against PROJ for ETRS-LAEA, a forward answer is at most 0.16 m
@@ -336,7 +337,7 @@ typedef struct laea_cell_numbers {
     int64_t north;
 } laea_cell_numbers;
 
-/* What a tally holds of one cell; all 0 where the slot is free. */
+/* What a tally holds of one cell. Making and clearing leave all 0. */
 typedef struct laea_slot {
     laea_cell_numbers cell;
     /* of the power readings, in nW */
@@ -350,7 +351,7 @@ typedef struct laea_slot {
 } laea_slot;
 
 typedef struct laea_tally {
-    /* of the cells, in cm: 10,000, 100,000 or 1,000,000 */
+    /* of the cells, in cm: 10,000, 100,000 or 1,000,000; another where the making was refused */
     int64_t side;
     laea_slot slots[LAEA_SLOT_COUNT];
 } laea_tally;
@@ -362,8 +363,9 @@ typedef struct laea_tally_result {
 } laea_tally_result;
 
 /*
- * The archive's functions take a tally and give the next one. A refused call gives the tally that was
- * put in. The functions after them do the same to a tally in its place.
+ * The archive's functions. Making, adding and clearing give the next tally and the number; a refused
+ * call gives the tally that was put in. Reading changes nothing and gives the number alone. The functions
+ * after them do the same to a tally in its place.
  */
 laea_tally_result laea1_tally_new(int64_t side);
 laea_tally_result laea1_tally_add_power(laea_tally tally, int64_t east, int64_t north,

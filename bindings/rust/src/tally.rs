@@ -265,7 +265,7 @@ mod tests {
         assert_eq!(tally.read(HERE), sums(1_000_000_000, 5, 5));
     }
 
-    /// The last reading that a cell takes is refused a successor, of either kind, until it is cleared.
+    /// A cell with `READINGS_MOST` readings takes no further one, of either kind, until it is cleared.
     #[test]
     fn full() {
         let mut tally = Tally::new(Side::OneKilometre);

@@ -1,5 +1,5 @@
 // Degrees and metres, document 01: doubles to whole units and back, and the tests of a coordinate.
-// Whole units are milliarcseconds (mas) and centimetres (cm).
+// Whole units are milliarcseconds (mas), centimetres (cm) and, for powers, nanowatts.
 ghost use mathlib.Core.Path.{_≡_};
 ghost use mathlib.Core.Bool.{true};
 ghost use Prim.Native.Nat.{_≤_};

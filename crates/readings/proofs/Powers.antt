@@ -3,17 +3,16 @@
 use mathlib.Core.Path.{_≡_, refl, sym}
 use mathlib.Core.Bool.{Bool, true, false, not, _||_, false≢true}
 use mathlib.Core.List.{[], _∷_}
-use Prim.Native.Nat.{ℕ, _+_, _*_, _^_, _≤_}
+use Prim.Native.Nat.{_+_, _*_, _^_}
 use native.Mathlib.Omega.{arith}
 use lib.Dec.{lit≤}
 use lib.IntN.{pos, natAbs}
 use lib.Ieee.{Float, nan, inf, fin, up, down, lt}
 use lib.Ieee.Fits.{down-pos}
 use borrow.Author.Tests.{ltb-false}
-use Rattle.integers.specs.Near.{nearest, signed}
 use Rattle.integers.proofs.Rounding.{nearest-zero}
 use Rattle.units.specs.Units.{milliwatt}
-use Rattle.units.specs.Refusals.{power-not-finite, power-out-of-limits, OneOf}
+use Rattle.units.specs.Refusals.{power-not-finite, power-out-of-limits}
 use Rattle.units.proofs.Chains.{link-passed, Gives, chain}
 use Rattle.floats.specs.Conversion.{wholeOf}
 use Rattle.floats.specs.Limits.{isFinite, withinLimit, planeLimit}

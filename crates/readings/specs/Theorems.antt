@@ -1,5 +1,5 @@
 -- What holds of readings. What `PowerRounded` states is proved as `power-rounded` in proofs/, and so the others.
-use Prim.Native.Nat.{ℕ, _≤_}
+use Prim.Native.Nat.{_≤_}
 use mathlib.Core.Path.{_≡_}
 use mathlib.Core.Bool.{true, false}
 use mathlib.Core.List.{[], _∷_}

@@ -49,7 +49,7 @@ pub struct NextTally {
     pub answer: TallyAnswer,
 }
 
-// The same of reading.
+// What reading a cell gives: its answer, and the tally as it was.
 pub struct ReadTally {
     pub tally: Tally,
     pub answer: SumsAnswer,

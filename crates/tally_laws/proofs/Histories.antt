@@ -2,14 +2,15 @@
 -- cell's slot holds its readings, so it is full where they are 10⁶. The cells of the list and the free slots are 256 together, and a cell is as often
 -- in the list as it has a slot; so there is a slot for it exactly where fewer than 256 others are in the list. Assumes nothing.
 use mathlib.Core.Path.{_≡_, refl, sym, _∙_}
-use mathlib.Core.Bool.{true, not}
+use mathlib.Core.Bool.{Bool, true, false, not}
 use mathlib.Core.List.{List, [], _∷_}
-use Prim.Native.Nat.{_+_, _≤_, _<_}
+use mathlib.Core.Logic.{_↔_}
+use Prim.Native.Nat.{ℕ, _+_, _≤_, _<_}
 use native.Mathlib.Omega.{arith}
 use lib.Dec.{ltb, leb}
 use lib.IntN.{ℤ, natAbs}
 use lib.ListN.{length}
-use borrow.Author.Tests.{lt-ltb, le-ltb}
+use borrow.Author.Tests.{lt-ltb, le-ltb, ltb-true, ltb-false, leb-true, leb-false}
 use Rattle.units.specs.Refusals.{full-cell, no-free-slot, unless, firstOf}
 use Rattle.cells.specs.Cells.{accepted-side, numbered, numbersRefusal}
 use Rattle.readings.specs.declared.Reading.{Reading}
@@ -23,13 +24,43 @@ use Rattle.tallies.specs.Tallies.{namedRefusal, slotRefusal, addRefusal, emptyT
 use Rattle.slots.proofs.Places.{own-place, free-place}
 use Rattle.tally_laws.specs.Histories.{Call, adding, numberOf, after, afterAll, Answered, history, readingsFrom, readingsOf, sumOf, countOf, overloadsOf}
 use Rattle.tally_laws.specs.Histories.{without, cellsFrom, cellsOf, addNumber}
-use Rattle.tally_laws.specs.Theorems.{passing, HistoryRule, AddDecided, OneSlot, SumsBounded}
+use Rattle.tally_laws.specs.Theorems.{passing, someOf, HistoryRule, AddDecided, AddRefusedExactly, OneSlot, SumsBounded}
 use Rattle.tally_laws.proofs.Lists.{Found, found}
 use Rattle.tally_laws.proofs.Lists.Found.{nowhere, somewhere}
 use Rattle.tally_laws.proofs.Cells.{dropped}
 use Rattle.tally_laws.proofs.Sums.{full-is, sum-bounded}
 use Rattle.tally_laws.proofs.Calls.{number-is}
 use Rattle.tally_laws.proofs.Invariant.{Kept, start, step}
+
+-- the numbers of a chain of the last two tests, of n readings and m other cells
+by-tests :
+    (n m number : ℕ) →
+    n ≤ most-readings →
+    m ≤ slot-count →
+    (m ≡ slot-count → n ≡ 0) →
+    number ≡ unless (not (leb most-readings n)) full-cell (unless (ltb m slot-count) no-free-slot 0) →
+    ((number ≡ full-cell) ↔ (n ≡ most-readings)) × ((number ≡ no-free-slot) ↔ (m ≡ slot-count))
+by-tests n m number few fit alone e = at (leb most-readings n) (ltb m slot-count) refl refl
+  where
+    at :
+        (full some : Bool) →
+        leb most-readings n ≡ full →
+        ltb m slot-count ≡ some →
+        ((number ≡ full-cell) ↔ (n ≡ most-readings)) × ((number ≡ no-free-slot) ↔ (m ≡ slot-count))
+    at true some f s =
+        let given : number ≡ full-cell = e ∙ rw f in
+        let reached = leb-true most-readings n f in
+        ((λ h. omega arith, λ h. given), (λ h. omega arith, λ h. omega (arith, alone h)))
+    at false true f s =
+        let given : number ≡ 0 = e ∙ rw (f, s) in
+        let room = leb-false most-readings n f in
+        let others = ltb-true m slot-count s in
+        ((λ h. omega arith, λ h. omega arith), (λ h. omega arith, λ h. omega arith))
+    at false false f s =
+        let given : number ≡ no-free-slot = e ∙ rw (f, s) in
+        let room = leb-false most-readings n f in
+        let others = ltb-false m slot-count s in
+        ((λ h. omega arith, λ h. omega arith), (λ h. omega arith, λ h. given))
 
 module _ {side : ℤ} {tally : Tally} {rs : CellNumbers → List Reading} {cells : List CellNumbers} (k : Kept side tally rs cells) where
   pub read-told :
@@ -75,6 +106,26 @@ module _ {side : ℤ} {tally : Tally} {rs : CellNumbers → List Reading} {cells
   unfolding addRefusal namedRefusal slotRefusal
   add-told cell r = number-is tally (adding cell r) ∙ rw (k .side-is, full-is (k .each cell .holding), place-is cell)
 
+  others-none : (cell : CellNumbers) → length (without cell cells) ≡ slot-count → length (rs cell) ≡ 0
+  others-none cell all-others = none (rs cell) (omega (arith, dropped cell cells .size, k .all, k .each cell .listed))
+    where
+      none : (rs : List Reading) → someOf rs ≡ 0 → length rs ≡ 0
+      none [] e = refl
+      none (r ∷ rs) e = let n : ⊥ = omega arith in absurd n
+
+  pub add-exactly :
+      (cell : CellNumbers) (r : Reading) →
+      numbersRefusal side (cell .east) (cell .north) ≡ 0 →
+      readingRefusal r ≡ 0 →
+      ((numberOf tally (adding cell r) ≡ full-cell) ↔ (length (rs cell) ≡ most-readings))
+      × ((numberOf tally (adding cell r) ≡ no-free-slot) ↔ (length (without cell cells) ≡ slot-count))
+  add-exactly cell r good-cell good-reading =
+      by-tests (length (rs cell)) (length (without cell cells)) (numberOf tally (adding cell r))
+      (k .each cell .holding .few)
+      (omega (arith, dropped cell cells .size, k .all, k .each cell .listed))
+      (others-none cell)
+      (add-told cell r ∙ rw (good-cell, good-reading))
+
 -- ---- any calls
 
 all-kept :
@@ -99,11 +150,14 @@ pub add-decided : AddDecided
 unfolding addNumber
 add-decided side calls cell r = add-told (from-start side calls) cell r
 
+pub add-refused-exactly : AddRefusedExactly
+add-refused-exactly side calls cell r = add-exactly (from-start side calls) cell r
+
 pub one-slot : OneSlot
 one-slot side calls cell =
     let k = from-start side calls in
     let e = k .each cell in
-    (e .held, e .listed, omega (arith, k .all))
+    (e .held, e .listed, k .all)
 
 pub sums-bounded : SumsBounded
 sums-bounded side calls cell =

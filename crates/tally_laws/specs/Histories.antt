@@ -1,5 +1,6 @@
 -- Document 02, e): "After any calls from an empty tally, every sum and count equals that of the accepted readings in the history since the cell was
--- last cleared." The calls and their answers as a list, and what the paper reads from it. Nothing from `Answered` on knows of slots.
+-- last cleared." The calls and their answers as a list, and what the paper reads from it. From `withCall` on all is worked out from the calls and
+-- their numbers alone: no definition there takes a tally or a slot.
 use Prim.Native.Nat.{ℕ, zero, suc, _+_}
 use mathlib.Core.Bool.{not, cond}
 use mathlib.Core.List.{List, [], _∷_}

@@ -2,6 +2,7 @@
 use crate::rows::add;
 use crate::rows::cell_at;
 use crate::rows::clear;
+use crate::rows::look;
 use crate::rows::make;
 use crate::rows::read;
 use cells::SIDE_1_KM;
@@ -21,7 +22,8 @@ pub(crate) fn sides() {
     let tally = make(1_000, OUT_OF_LIMITS);
     let cell = cell_at(0, 0);
     let tally = add(tally, cell, Reading::Power(1.0), OUT_OF_LIMITS);
-    clear(tally, cell, OUT_OF_LIMITS);
+    let tally = clear(tally, cell, OUT_OF_LIMITS);
+    look(tally, cell);
 }
 
 // A power is added to the cell and read, and the cell is cleared.
@@ -80,5 +82,6 @@ pub(crate) fn out_of_limits() {
     let tally = add(tally, cell_at(5_000, -5_000), Reading::Overloaded(1.0), 0);
     let tally = read(tally, cell_at(5_000, -5_000), 0, 0, 1);
     let tally = add(tally, cell_at(5_001, 0), Reading::Power(1.0), OUT_OF_LIMITS);
-    clear(tally, cell_at(0, -5_001), OUT_OF_LIMITS);
+    let tally = clear(tally, cell_at(0, -5_001), OUT_OF_LIMITS);
+    look(tally, cell_at(0, 5_001));
 }

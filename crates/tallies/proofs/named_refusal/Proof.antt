@@ -1,6 +1,5 @@
 -- `named_refusal` meets its contract: the numbers are handed on. Assumes nothing.
 use borrow.Author.Needs.{needs}
-use mathlib.Core.Path.{_∙_}
 use mir.Syntax.{w64}
 use mir.Facts.{toZ-ofZ}
 use Rattle.tallies.specs.Tallies.{namedRefusal}

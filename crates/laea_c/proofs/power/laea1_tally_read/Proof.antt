@@ -1,6 +1,6 @@
 -- What the library reads of the cell with these numbers is written as it tells. Assumes nothing.
 use borrow.Author.Needs.{needs}
-use mathlib.Core.Path.{_≡_, ap, _∙_}
+use mathlib.Core.Path.{ap, _∙_}
 use mir.Facts.{toZ-ofZ}
 use Rattle.tallies.specs.declared.ReadTally.{ReadTally}
 use Rattle.tallies.specs.declared.SumsAnswer.{SumsAnswer}
