@@ -1,6 +1,7 @@
 //! A second opinion on the archive: the rules of the papers written a second time, plainly and
 //! slowly, without sight of the Rattle code, and every call of the archive held to it on random and hostile
-//! input, bit for bit.
+//! input, bit for bit. For tallies that is not claimed: `tally_rules` is a model by the papers' rules, on a map
+//! without slots, and `tally_states` writes the definitions again for tallies that no call gave.
 //!
 //! `LAEA_INPUTS` sets the number of inputs for each call (1,000,000 without it), `LAEA_SEED` the
 //! seed (the clock without it). Each run prints its seed and its counts: use `--nocapture`.
