@@ -1,7 +1,7 @@
 /*
  * Lambert Azimuthal Equal-Area (EPSG method 9820): latitude and longitude to easting and northing,
  * and back, one point or a list at a time; the map cell that a position lies in; the code of a cell;
- * and a tally of the power received in each cell. For C and C++.
+ * and a tally of the power received in each cell, for two control loops. For C and C++.
  *
  *     double out[2];
  *     uint8_t refusal = laea_forward(LAEA_ETRS_LAEA, 50.0, 5.0, out);
@@ -31,10 +31,10 @@
  * Refusals. Every value of every argument is taken, NaN and infinity too, and is answered or refused
  * with a number. The first that applies is told: of a single point 11 to 16, 2, 3, 4 in this order; of
  * a list call 5, 6, 11 to 16, and then of each point 2, 3, 4; of a code to be written 3, 32, 33, and
- * of a text to be read as one 31; of a reading to be added to a tally 3, 41, 42, 43, 44, and of its
- * other calls 3. Both coordinates are tested for 2 before either is for 3, and both cell numbers for 3
- * before either is for 32. The limits of 3 and 42 are tested on the double itself, before it is
- * rounded.
+ * of a text to be read as one 31; of a tally to be made 3, of a reading to be added to one 45, 3, 41,
+ * 42, 43, 44, and of its other calls 45, 3. Both coordinates are tested for 2 before either is for 3,
+ * and both cell numbers for 3 before either is for 32. The limits of 3 and 42 are tested on the double
+ * itself, before it is rounded.
  *
  *   2  LAEA_NOT_FINITE     a coordinate is NaN or infinite
  *   3  LAEA_OUT_OF_LIMITS  a latitude beyond 90 or a longitude beyond 180 degrees, either side of 0;
@@ -67,7 +67,10 @@
  *   41  LAEA_POWER_NOT_FINITE     the power of a reading is NaN or infinite
  *   42  LAEA_POWER_OUT_OF_LIMITS  the power of a reading is below 0 or above 1,000 mW
  *   43  LAEA_FULL_CELL            the cell has LAEA_READINGS_MOST readings, of both kinds together
- *   44  LAEA_NO_FREE_SLOT         the cell has no slot in the tally, and none is free
+ *   44  LAEA_NO_NEW_SLOT          the cell has no slot in the tally, and its loop gets no new one: it
+ *                                 holds LAEA_SURE_SLOTS or more, and the slots that the two loops hold
+ *                                 beyond that number are LAEA_SHARED_SLOTS or more together
+ *   45  LAEA_BAD_LOOP             the loop number is not 1 or 2
  *
  * A refused call writes nothing: neither `out`, nor an element of a list, nor a byte of a text, nor
  * the count or the length, nor the tally. Only laea_tally_new makes its tally in any case.
@@ -95,8 +98,9 @@
  * Platform: x86-64 Linux, for which the archive is compiled.
  *
  * Versions. LAEA_VERSION is this header's, laea_version() the archive's. The functions' names in the
- * archive hold the number of the layouts of the set and the tally (laea1_forward): a program that was
- * compiled against a header with another layout does not link.
+ * archive hold a number: that of the set's layout where a function takes a set (laea1_forward), that of
+ * the tally's where it makes or takes a tally (laea2_tally_read), and 1 elsewhere. A program that was
+ * compiled against a header with another layout, and calls such a function, does not link.
  */
 #ifndef LAEA_H
 #define LAEA_H
@@ -108,8 +112,8 @@
 extern "C" {
 #endif
 
-/* 10,000 times the major number, 100 times the minor one, and the patch: 0.6.0. */
-#define LAEA_VERSION 600
+/* 10,000 times the major number, 100 times the minor one, and the patch: 0.7.0. */
+#define LAEA_VERSION 700
 
 /* What a call returns, and what a point's mark is. */
 #define LAEA_OK 0
@@ -130,7 +134,8 @@ extern "C" {
 #define LAEA_POWER_NOT_FINITE 41
 #define LAEA_POWER_OUT_OF_LIMITS 42
 #define LAEA_FULL_CELL 43
-#define LAEA_NO_FREE_SLOT 44
+#define LAEA_NO_NEW_SLOT 44
+#define LAEA_BAD_LOOP 45
 
 /* The most points that a list call takes. */
 #define LAEA_LIST_MOST 4096
@@ -140,6 +145,10 @@ extern "C" {
 
 /* How many slots a tally has. */
 #define LAEA_SLOT_COUNT 256
+
+/* How many of them each loop is sure of, and how many the two can hold together beyond those. */
+#define LAEA_SURE_SLOTS 96
+#define LAEA_SHARED_SLOTS 64
 
 /* The most readings of both kinds together that a tally takes of a cell. */
 #define LAEA_READINGS_MOST 1000000
@@ -298,9 +307,16 @@ uint8_t laea_write_code(int64_t side, int64_t east, int64_t north,
 uint8_t laea_read_code(const char *text, size_t text_length, int64_t out[3]);
 
 /*
- * A tally of the power received in each cell. It is of one side and has LAEA_SLOT_COUNT slots; each
- * holds, for one cell, the sum of its power readings in nW, their count, and the count of its overload
- * readings.
+ * A tally of the power received in each cell, for two control loops, 1 and 2. It is of one side and has
+ * LAEA_SLOT_COUNT slots, which the loops share; each holds, for one cell of one loop, the sum of its
+ * power readings in nW, their count, and the count of its overload readings. A cell of one loop is not
+ * a cell of the other: each call takes a loop number and is about the cells of that loop.
+ *
+ * A cell without a slot gets one with its first accepted reading. A loop gets a new slot exactly where
+ * it holds fewer than LAEA_SURE_SLOTS, or where the slots that the two loops hold beyond that number are
+ * fewer than LAEA_SHARED_SLOTS together. So one loop can hold 160, and the other is then still sure of
+ * its 96. What a loop reads of its cells depends on its own accepted calls alone, in their order; its
+ * refusal 44 depends on those and on how many slots the other holds.
  *
  * A reading is a power in mW, from 0 to 1,000 (-0.0 is 0); or it says that the receiver was overloaded,
  * and carries the last good power. That power is tested as the other is, and not summed, and the
@@ -311,9 +327,9 @@ uint8_t laea_read_code(const char *text, size_t text_length, int64_t out[3]);
  *     uint64_t out[3];
  *     uint8_t refusal = laea_tally_new(&tally, 100000);
  *     if (refusal == LAEA_OK)
- *         refusal = laea_tally_add_power(&tally, 3962, 2999, 0.25);
+ *         refusal = laea_tally_add_power(&tally, 1, 3962, 2999, 0.25);
  *     if (refusal == LAEA_OK)
- *         refusal = laea_tally_read(&tally, 3962, 2999, out);
+ *         refusal = laea_tally_read(&tally, 1, 3962, 2999, out);
  *     if (refusal == LAEA_OK && out[1] != 0)
  *         printf("mean %.6f mW\n", (double)out[0] / (double)out[1] / 1e6);
  *
@@ -321,33 +337,37 @@ uint8_t laea_read_code(const char *text, size_t text_length, int64_t out[3]);
  * where the count is not 0.
  *
  * The result is LAEA_OK or the refusal number. A refused call leaves the tally as it was; only
- * laea_tally_new makes one in any case. Every call is refused 3 for cell numbers that laea_cell cannot
- * give for the tally's side, and on a tally whose side is not one of the three.
+ * laea_tally_new makes one in any case. Every other call is refused 45 for a loop number that is not 1
+ * or 2, and else 3 for cell numbers that laea_cell cannot give for the tally's side, and on a tally
+ * whose side is not one of the three. A loop number has 64 bits, so that none is cut down to 1 or 2:
+ * 257 and -1 are refused.
  *
  * A tally has 12,296 bytes and may be copied and stored. Every field is a number of which every bit
  * pattern is a value, so that a tally whose bytes were damaged is answered too, without undefined
- * behaviour. What is said of sums and counts holds of tallies that these calls gave.
+ * behaviour. What is said of sums, counts and slots holds of tallies that these calls gave.
  *
- * Each call copies the tally: adding takes one to two microseconds, reading less than one.
+ * Each call copies the tally: adding takes one to three microseconds, reading less than one.
  */
 
-/* A cell's numbers, as laea_cell gives them. */
-typedef struct laea_cell_numbers {
+/* A cell of a loop. */
+typedef struct laea_loop_cell {
+    /* 1 or 2 */
+    uint64_t loop_number;
+    /* as laea_cell gives them */
     int64_t east;
     int64_t north;
-} laea_cell_numbers;
+} laea_loop_cell;
 
-/* What a tally holds of one cell. Making and clearing leave all 0. */
+/* What a tally holds of one cell of a loop. Making and clearing leave all 0. */
 typedef struct laea_slot {
-    laea_cell_numbers cell;
+    /* its loop_number is 0 where the slot is free */
+    laea_loop_cell cell;
     /* of the power readings, in nW */
     uint64_t sum;
     /* how many power readings */
     uint64_t count;
     /* how many overload readings */
     uint64_t overloads;
-    /* 0 where the slot is free, any other number where it is held */
-    uint64_t held;
 } laea_slot;
 
 typedef struct laea_tally {
@@ -367,58 +387,47 @@ typedef struct laea_tally_result {
  * call gives the tally that was put in. Reading changes nothing and gives the number alone. The functions
  * after them do the same to a tally in its place.
  */
-laea_tally_result laea1_tally_new(int64_t side);
-laea_tally_result laea1_tally_add_power(laea_tally tally, int64_t east, int64_t north,
-                                        double milliwatts);
-laea_tally_result laea1_tally_add_overload(laea_tally tally, int64_t east, int64_t north,
-                                           double milliwatts);
-laea_tally_result laea1_tally_clear(laea_tally tally, int64_t east, int64_t north);
-uint8_t laea1_tally_read(laea_tally tally, int64_t east, int64_t north, uint64_t out[3]);
+laea_tally_result laea2_tally_new(int64_t side);
+laea_tally_result laea2_tally_add_power(laea_tally tally, uint64_t loop_number, int64_t east,
+                                        int64_t north, double milliwatts);
+laea_tally_result laea2_tally_add_overload(laea_tally tally, uint64_t loop_number, int64_t east,
+                                           int64_t north, double milliwatts);
+laea_tally_result laea2_tally_clear(laea_tally tally, uint64_t loop_number, int64_t east,
+                                    int64_t north);
+uint8_t laea2_tally_read(laea_tally tally, uint64_t loop_number, int64_t east, int64_t north,
+                         uint64_t out[3]);
 
 /*
  * Makes an empty tally for cells of a side in cm. Refused 3; the tally is then empty too and of the
- * side asked, and every call on it is refused 3.
+ * side asked, and every call on it is refused, 45 or 3.
  */
 static inline uint8_t laea_tally_new(laea_tally *tally, int64_t side)
 {
-    laea_tally_result made = laea1_tally_new(side);
+    laea_tally_result made = laea2_tally_new(side);
 
     *tally = made.tally;
     return made.refusal;
 }
 
 /*
- * Adds a power reading to a cell. It goes into the cell's slot; a cell without one gets the first that
- * is free. Refused 3, 41, 42, 43, 44.
+ * Adds a power reading to a cell of a loop. It goes into the cell's slot; a cell without one gets the
+ * first that is free, where its loop gets a new slot. Refused 45, 3, 41, 42, 43, 44.
  */
-static inline uint8_t laea_tally_add_power(laea_tally *tally, int64_t east, int64_t north,
-                                           double milliwatts)
+static inline uint8_t laea_tally_add_power(laea_tally *tally, uint64_t loop_number, int64_t east,
+                                           int64_t north, double milliwatts)
 {
-    laea_tally_result next = laea1_tally_add_power(*tally, east, north, milliwatts);
+    laea_tally_result next = laea2_tally_add_power(*tally, loop_number, east, north, milliwatts);
 
     if (next.refusal == LAEA_OK)
         *tally = next.tally;
     return next.refusal;
 }
 
-/* The same of an overload reading, with the last good power. Refused 3, 41, 42, 43, 44. */
-static inline uint8_t laea_tally_add_overload(laea_tally *tally, int64_t east, int64_t north,
-                                              double milliwatts)
+/* The same of an overload reading, with the last good power. Refused 45, 3, 41, 42, 43, 44. */
+static inline uint8_t laea_tally_add_overload(laea_tally *tally, uint64_t loop_number, int64_t east,
+                                              int64_t north, double milliwatts)
 {
-    laea_tally_result next = laea1_tally_add_overload(*tally, east, north, milliwatts);
-
-    if (next.refusal == LAEA_OK)
-        *tally = next.tally;
-    return next.refusal;
-}
-
-/*
- * Clears a cell: all that it has is forgotten, and its slot is free. A cell that has no slot is cleared
- * without a change. Refused 3.
- */
-static inline uint8_t laea_tally_clear(laea_tally *tally, int64_t east, int64_t north)
-{
-    laea_tally_result next = laea1_tally_clear(*tally, east, north);
+    laea_tally_result next = laea2_tally_add_overload(*tally, loop_number, east, north, milliwatts);
 
     if (next.refusal == LAEA_OK)
         *tally = next.tally;
@@ -426,14 +435,28 @@ static inline uint8_t laea_tally_clear(laea_tally *tally, int64_t east, int64_t 
 }
 
 /*
- * Reads a cell: out is the sum of its power readings in nW, their count, and the count of its overload
- * readings, all since it was last cleared; three zeros where it has no slot. Refused 3, and then out is
- * as it was.
+ * Clears a cell of a loop: all that it has is forgotten, and its slot is free, for either loop. A cell
+ * that has no slot is cleared without a change. Refused 45, 3.
  */
-static inline uint8_t laea_tally_read(const laea_tally *tally, int64_t east, int64_t north,
-                                      uint64_t out[3])
+static inline uint8_t laea_tally_clear(laea_tally *tally, uint64_t loop_number, int64_t east,
+                                       int64_t north)
 {
-    return laea1_tally_read(*tally, east, north, out);
+    laea_tally_result next = laea2_tally_clear(*tally, loop_number, east, north);
+
+    if (next.refusal == LAEA_OK)
+        *tally = next.tally;
+    return next.refusal;
+}
+
+/*
+ * Reads a cell of a loop: out is the sum of its power readings in nW, their count, and the count of its
+ * overload readings, all since it was last cleared; three zeros where it has no slot. Refused 45, 3,
+ * and then out is as it was.
+ */
+static inline uint8_t laea_tally_read(const laea_tally *tally, uint64_t loop_number, int64_t east,
+                                      int64_t north, uint64_t out[3])
+{
+    return laea2_tally_read(*tally, loop_number, east, north, out);
 }
 
 /* Whether a set is accepted: LAEA_OK, or the number of the first field that is outside its range. */
@@ -482,8 +505,10 @@ static inline const char *laea_refusal_text(uint8_t number)
         return "the power is below 0 or above 1,000 mW";
     case LAEA_FULL_CELL:
         return "the cell has 1,000,000 readings";
-    case LAEA_NO_FREE_SLOT:
-        return "the cell has no slot, and none of the 256 is free";
+    case LAEA_NO_NEW_SLOT:
+        return "the cell has no slot, and its loop gets no new one";
+    case LAEA_BAD_LOOP:
+        return "the loop number is not 1 or 2";
     default:
         return "unknown refusal number";
     }

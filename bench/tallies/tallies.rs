@@ -1,11 +1,12 @@
 //! Time per call of a tally: of the archive's functions, which take it and give the next by value; of
 //! the crate's `Tally`, which calls these; and of a plain struct that is changed in its place.
 //!
-//! Each contestant makes the same calls, on cells drawn evenly from those in use. A round runs every
-//! contestant once, one after the other, each on a tally of its own that was filled beforehand; the
-//! rounds follow each other, so that a slow spell of the machine meets all alike. Only the calls are
-//! timed. The time is the processor time of the thread, which other programs on the machine lengthen
-//! less than they do the time of day. The median over all rounds is printed.
+//! Each contestant makes the same calls, on cells drawn evenly from those in use, of both loops; or it
+//! fills an empty tally, where each call is for a new cell. A round runs every contestant once, one after
+//! the other, each on a tally of its own that was filled beforehand; the rounds follow each other, so that
+//! a slow spell of the machine meets all alike. Only the calls are timed. The time is the processor time
+//! of the thread, which other programs on the machine lengthen less than they do the time of day. The
+//! median over all rounds is printed.
 
 /// The crate's own declarations of the archive's functions, so that they stand in one place.
 #[allow(dead_code)]
@@ -19,6 +20,7 @@ mod random;
 use laea::{Cell, Reading, Side};
 /// What the declarations name.
 use laea::{Set, SLOT_COUNT};
+use plain::LoopCell;
 use random::Random;
 use std::hint::black_box;
 use std::process::exit;
@@ -27,39 +29,40 @@ use std::process::exit;
 const CALLS: usize = 1_000;
 const SIDE: Side = Side::OneKilometre;
 const NAMES: [&str; 3] = [
-    "laea1_tally_*, by value",
+    "laea2_tally_*, by value",
     "laea::Tally, in its place",
     "a plain struct, in its place",
 ];
 
-/// A cell and a power in milliwatts.
-type Call = ((i64, i64), f64);
+/// A loop's cell and a power in milliwatts.
+type Call = (LoopCell, f64);
 
 trait Contestant: Clone {
     fn new() -> Self;
     /// The refusal's number, or 0.
     fn add(&mut self, call: Call) -> u8;
     /// The sum in nanowatts, the count and the overload count, or the refusal's number.
-    fn read(&self, cell: (i64, i64)) -> Result<[u64; 3], u8>;
+    fn read(&self, cell: LoopCell) -> Result<[u64; 3], u8>;
 }
 
 impl Contestant for archive::Tally {
     fn new() -> Self {
         // SAFETY: the call takes every number and writes nothing but its result.
-        unsafe { archive::laea1_tally_new(SIDE.centimetres()) }.tally
+        unsafe { archive::laea2_tally_new(SIDE.centimetres()) }.tally
     }
 
-    fn add(&mut self, ((east, north), milliwatts): Call) -> u8 {
+    fn add(&mut self, ((loop_number, east, north), milliwatts): Call) -> u8 {
         // SAFETY: the call takes every value of its arguments and writes nothing but its result.
-        let next = unsafe { archive::laea1_tally_add_power(*self, east, north, milliwatts) };
+        let next =
+            unsafe { archive::laea2_tally_add_power(*self, loop_number, east, north, milliwatts) };
         *self = next.tally;
         next.refusal
     }
 
-    fn read(&self, (east, north): (i64, i64)) -> Result<[u64; 3], u8> {
+    fn read(&self, (loop_number, east, north): LoopCell) -> Result<[u64; 3], u8> {
         let mut out = [0; 3];
         // SAFETY: `out` is three places that the archive may write.
-        match unsafe { archive::laea1_tally_read(*self, east, north, &mut out) } {
+        match unsafe { archive::laea2_tally_read(*self, loop_number, east, north, &mut out) } {
             0 => Ok(out),
             number => Err(number),
         }
@@ -71,13 +74,14 @@ impl Contestant for laea::Tally {
         laea::Tally::new(SIDE)
     }
 
-    fn add(&mut self, ((east, north), milliwatts): Call) -> u8 {
-        let answer = self.add(Cell { east, north }, Reading::Power(milliwatts));
+    fn add(&mut self, ((loop_number, east, north), milliwatts): Call) -> u8 {
+        let reading = Reading::Power(milliwatts);
+        let answer = self.add(loop_number, Cell { east, north }, reading);
         answer.err().map_or(0, |refusal| refusal.number())
     }
 
-    fn read(&self, (east, north): (i64, i64)) -> Result<[u64; 3], u8> {
-        match self.read(Cell { east, north }) {
+    fn read(&self, (loop_number, east, north): LoopCell) -> Result<[u64; 3], u8> {
+        match self.read(loop_number, Cell { east, north }) {
             Ok(sums) => Ok([sums.sum, sums.count, sums.overloads]),
             Err(refusal) => Err(refusal.number()),
         }
@@ -93,7 +97,7 @@ impl Contestant for plain::Tally {
         self.add(cell, milliwatts).err().unwrap_or(0)
     }
 
-    fn read(&self, cell: (i64, i64)) -> Result<[u64; 3], u8> {
+    fn read(&self, cell: LoopCell) -> Result<[u64; 3], u8> {
         self.read(cell)
     }
 }
@@ -127,7 +131,7 @@ fn timed(mut run: impl FnMut(Call), calls: &[Call]) -> f64 {
 }
 
 /// A tally with one reading in each of these cells.
-fn filled<T: Contestant>(cells: &[(i64, i64)]) -> T {
+fn filled<T: Contestant>(cells: &[LoopCell]) -> T {
     let mut tally = T::new();
     for &cell in cells {
         if tally.add((cell, 1.0)) != 0 {
@@ -159,12 +163,12 @@ fn time_reads<T: Contestant>(tally: &T, calls: &[Call]) -> f64 {
 }
 
 /// What the cells hold after these calls.
-fn sums<T: Contestant>(start: &T, cells: &[(i64, i64)], calls: &[Call]) -> Vec<[u64; 3]> {
+fn sums<T: Contestant>(start: &T, cells: &[LoopCell], calls: &[Call]) -> Vec<[u64; 3]> {
     let mut tally = start.clone();
     if calls.iter().any(|&call| tally.add(call) != 0) {
         stop("a reading is refused");
     }
-    let read = |cell: &(i64, i64)| tally.read(*cell).unwrap_or_else(|_| stop("refused"));
+    let read = |cell: &LoopCell| tally.read(*cell).unwrap_or_else(|_| stop("refused"));
     cells.iter().map(read).collect()
 }
 
@@ -173,8 +177,8 @@ fn median(times: &mut [f64]) -> f64 {
     times[times.len() / 2]
 }
 
-fn print(what: &str, cells: usize, times: &mut [Vec<f64>; 3]) {
-    println!("\n{what}, cells in use: {cells}");
+fn print(what: &str, times: &mut [Vec<f64>; 3]) {
+    println!("\n{what}");
     let medians = times.each_mut().map(|times| median(times));
     for (name, time) in NAMES.into_iter().zip(medians) {
         let ratio = time / medians[2];
@@ -182,11 +186,54 @@ fn print(what: &str, cells: usize, times: &mut [Vec<f64>; 3]) {
     }
 }
 
+/// Cells of both loops in turns, so that 256 of them get a slot.
+fn cells(count: usize) -> Vec<LoopCell> {
+    let cell = |at: i64| (1 + at as u64 % 2, 3_900 + at, 2_999);
+    (0..count as i64).map(cell).collect()
+}
+
+/// The contestants, each with one reading in each of some cells.
+struct All {
+    by_value: archive::Tally,
+    wrapped: laea::Tally,
+    plain: plain::Tally,
+}
+
+impl All {
+    fn new(cells: &[LoopCell]) -> All {
+        All {
+            by_value: filled(cells),
+            wrapped: filled(cells),
+            plain: filled(cells),
+        }
+    }
+
+    /// What is timed must be the same work.
+    fn agree(&self, cells: &[LoopCell], calls: &[Call]) {
+        let expected = sums(&self.plain, cells, calls);
+        let by_value = sums(&self.by_value, cells, calls);
+        if by_value != expected || sums(&self.wrapped, cells, calls) != expected {
+            stop("the contestants do not agree");
+        }
+    }
+
+    fn time_adds(&self, calls: &[Call], times: &mut [Vec<f64>; 3]) {
+        times[0].push(time_adds(&self.by_value, calls));
+        times[1].push(time_adds(&self.wrapped, calls));
+        times[2].push(time_adds(&self.plain, calls));
+    }
+
+    fn time_reads(&self, calls: &[Call], times: &mut [Vec<f64>; 3]) {
+        times[0].push(time_reads(&self.by_value, calls));
+        times[1].push(time_reads(&self.wrapped, calls));
+        times[2].push(time_reads(&self.plain, calls));
+    }
+}
+
+/// Calls on cells that have a slot.
 fn run(count: usize, rounds: usize, random: &mut Random) {
-    let cells: Vec<(i64, i64)> = (0..count as i64).map(|at| (3_900 + at, 2_999)).collect();
-    let by_value: archive::Tally = filled(&cells);
-    let wrapped: laea::Tally = filled(&cells);
-    let plain: plain::Tally = filled(&cells);
+    let cells = cells(count);
+    let all = All::new(&cells);
     let mut adds = [(); 3].map(|()| Vec::new());
     let mut reads = [(); 3].map(|()| Vec::new());
     for _ in 0..rounds {
@@ -196,21 +243,28 @@ fn run(count: usize, rounds: usize, random: &mut Random) {
                 (random.pick(&cells), power)
             })
             .collect();
-        // What is timed must be the same work.
-        let expected = sums(&plain, &cells, &calls);
-        if sums(&by_value, &cells, &calls) != expected || sums(&wrapped, &cells, &calls) != expected
-        {
-            stop("the contestants do not agree");
-        }
-        adds[0].push(time_adds(&by_value, &calls));
-        adds[1].push(time_adds(&wrapped, &calls));
-        adds[2].push(time_adds(&plain, &calls));
-        reads[0].push(time_reads(&by_value, &calls));
-        reads[1].push(time_reads(&wrapped, &calls));
-        reads[2].push(time_reads(&plain, &calls));
+        all.agree(&cells, &calls);
+        all.time_adds(&calls, &mut adds);
+        all.time_reads(&calls, &mut reads);
     }
-    print("Add a power", count, &mut adds);
-    print("Read", count, &mut reads);
+    print(&format!("Add a power, cells in use: {count}"), &mut adds);
+    print(&format!("Read, cells in use: {count}"), &mut reads);
+}
+
+/// An empty tally is filled: each call is for a new cell, and all slots are in use at the end.
+fn run_new(rounds: usize) {
+    let cells = cells(SLOT_COUNT);
+    let calls: Vec<Call> = cells.iter().map(|&cell| (cell, 1.0)).collect();
+    let all = All::new(&[]);
+    all.agree(&cells, &calls);
+    let mut adds = [(); 3].map(|()| Vec::new());
+    for _ in 0..rounds {
+        all.time_adds(&calls, &mut adds);
+    }
+    print(
+        "Add a power to a new cell, cells in use: 0 to 255",
+        &mut adds,
+    );
 }
 
 fn main() {
@@ -221,11 +275,12 @@ fn main() {
     if !(1..=10_000).contains(&rounds) {
         stop("the argument is the number of rounds, 1 to 10000");
     }
-    println!("Tallies of {SLOT_COUNT} slots; {CALLS} calls of each line in a round.");
+    println!("Tallies of {SLOT_COUNT} slots; {CALLS} calls of each line in a round, {SLOT_COUNT} for new cells.");
     println!("Median processor time of {rounds} rounds; each round runs every line once.");
     println!("The last column is the time over that of the plain struct.");
     let mut random = Random::new(20240229);
     for count in [1, 128, 256] {
         run(count, rounds, &mut random);
     }
+    run_new(rounds);
 }

@@ -148,13 +148,13 @@ static void told(const char *what, uint8_t refusal)
     printf("%s: %d, %s\n", what, refusal, laea_refusal_text(refusal));
 }
 
-/* What a tally has of a cell; a cell without a power reading has no mean. */
-static void read_cell(const laea_tally *tally, int64_t east, int64_t north)
+/* What a tally has of a loop's cell; a cell without a power reading has no mean. */
+static void read_cell(const laea_tally *tally, uint64_t loop_number, int64_t east, int64_t north)
 {
     uint64_t out[3];
-    uint8_t refusal = laea_tally_read(tally, east, north, out);
+    uint8_t refusal = laea_tally_read(tally, loop_number, east, north, out);
 
-    printf("tally's cell %" PRId64 " %" PRId64 ": ", east, north);
+    printf("loop %" PRIu64 ", cell %" PRId64 " %" PRId64 ": ", loop_number, east, north);
     if (refusal != LAEA_OK) {
         printf("refused %d: %s\n", refusal, laea_refusal_text(refusal));
         return;
@@ -166,7 +166,7 @@ static void read_cell(const laea_tally *tally, int64_t east, int64_t north)
         printf("no mean\n");
 }
 
-/* From a position in mas to its cell: an overload, two powers, and what the cell then has. */
+/* From a position in mas to its cell: loop 1 adds an overload and two powers, and what each loop then has. */
 static void readings(laea_set set, int64_t latitude, int64_t longitude)
 {
     laea_tally tally;
@@ -181,12 +181,15 @@ static void readings(laea_set set, int64_t latitude, int64_t longitude)
         told("readings", refusal);
         return;
     }
-    read_cell(&tally, cell[0], cell[1]);
-    told("overload after 12.5 mW", laea_tally_add_overload(&tally, cell[0], cell[1], 12.5));
-    read_cell(&tally, cell[0], cell[1]);
-    told("power 0.25 mW", laea_tally_add_power(&tally, cell[0], cell[1], 0.25));
-    told("power 1/128 mW", laea_tally_add_power(&tally, cell[0], cell[1], 1.0 / 128));
-    read_cell(&tally, cell[0], cell[1]);
+    read_cell(&tally, 1, cell[0], cell[1]);
+    told("overload after 12.5 mW", laea_tally_add_overload(&tally, 1, cell[0], cell[1], 12.5));
+    read_cell(&tally, 1, cell[0], cell[1]);
+    told("power 0.25 mW", laea_tally_add_power(&tally, 1, cell[0], cell[1], 0.25));
+    told("power 1/128 mW", laea_tally_add_power(&tally, 1, cell[0], cell[1], 1.0 / 128));
+    read_cell(&tally, 1, cell[0], cell[1]);
+    read_cell(&tally, 2, cell[0], cell[1]);
+    told("loop 2 clears its cell", laea_tally_clear(&tally, 2, cell[0], cell[1]));
+    read_cell(&tally, 1, cell[0], cell[1]);
 }
 
 /* Readings that are refused leave the tally as it was. */
@@ -195,39 +198,56 @@ static void refused_readings(void)
     laea_tally tally, before;
 
     told("tally of 10 km", laea_tally_new(&tally, 1000000));
-    told("power -0.0 mW", laea_tally_add_power(&tally, 5000, -5000, -0.0));
-    told("power 1000 mW", laea_tally_add_power(&tally, 5000, -5000, 1000.0));
+    told("power -0.0 mW", laea_tally_add_power(&tally, 1, 5000, -5000, -0.0));
+    told("power 1000 mW", laea_tally_add_power(&tally, 1, 5000, -5000, 1000.0));
     before = tally;
-    told("cell beyond the last", laea_tally_add_power(&tally, 5001, 0, 1.0));
-    told("power NaN", laea_tally_add_power(&tally, 5000, -5000, NAN));
-    told("overload after infinite power", laea_tally_add_overload(&tally, 5000, -5000, INFINITY));
-    told("power below 0", laea_tally_add_power(&tally, 5000, -5000, -5e-324));
-    told("overload after 1000.5 mW", laea_tally_add_overload(&tally, 5000, -5000, 1000.5));
+    told("loop 0", laea_tally_add_power(&tally, 0, 5000, -5000, 1.0));
+    told("loop 3, cell beyond the last, power NaN", laea_tally_add_power(&tally, 3, 5001, 0, NAN));
+    told("loop 257 cleared", laea_tally_clear(&tally, 257, 5000, -5000));
+    told("cell beyond the last, power NaN", laea_tally_add_power(&tally, 1, 5001, 0, NAN));
+    told("power NaN", laea_tally_add_power(&tally, 1, 5000, -5000, NAN));
+    told("overload after infinite power", laea_tally_add_overload(&tally, 1, 5000, -5000, INFINITY));
+    told("power below 0", laea_tally_add_power(&tally, 1, 5000, -5000, -5e-324));
+    told("overload after 1000.5 mW", laea_tally_add_overload(&tally, 1, 5000, -5000, 1000.5));
     printf("the tally's %d bytes: %s\n", (int)sizeof tally,
            memcmp(&tally, &before, sizeof tally) == 0 ? "as before" : "changed");
-    read_cell(&tally, 5000, -5000);
-    read_cell(&tally, 5000, -5001);
+    read_cell(&tally, 1, 5000, -5000);
+    read_cell(&tally, 1, 5000, -5001);
+    read_cell(&tally, 3, 5000, -5001);
 }
 
-/* A tally without a free slot: a cell of its own is added to, another gets the slot of one cleared. */
+/* A loop adds a power to one new cell after the other, until one is refused. */
+static void fill(laea_tally *tally, uint64_t loop_number)
+{
+    int64_t east = 0;
+    uint8_t refusal;
+
+    while ((refusal = laea_tally_add_power(tally, loop_number, east, -1, 1.0)) == LAEA_OK)
+        east++;
+    printf("loop %" PRIu64 ", a power for each of %" PRId64 " cells: accepted; for another: %d, %s\n",
+           loop_number, east, refusal, laea_refusal_text(refusal));
+}
+
+/* The slots of both loops: 160 of one, and still 96 of the other. A cell that has a slot is added to;
+   another cell gets the slot of one cleared. */
 static void slots(void)
 {
     laea_tally tally;
-    uint8_t refusal = laea_tally_new(&tally, 10000);
 
-    for (int64_t east = 0; refusal == LAEA_OK && east < LAEA_SLOT_COUNT; east++)
-        refusal = laea_tally_add_power(&tally, east, -1, 1.0);
-    told("a power for each of 256 cells", refusal);
-    told("power for another cell", laea_tally_add_power(&tally, -7, -1, 2.0));
-    told("power for a cell that has a slot", laea_tally_add_power(&tally, 9, -1, 2.0));
-    told("cell that has no slot cleared", laea_tally_clear(&tally, -7, -1));
-    told("cell cleared", laea_tally_clear(&tally, 8, -1));
-    told("power for another cell", laea_tally_add_power(&tally, -7, -1, 2.0));
-    read_cell(&tally, 8, -1);
-    read_cell(&tally, 9, -1);
-    read_cell(&tally, -7, -1);
-    printf("slot 8 is of cell %" PRId64 " %" PRId64 "\n", tally.slots[8].cell.east,
-           tally.slots[8].cell.north);
+    told("tally of 100 m", laea_tally_new(&tally, 10000));
+    fill(&tally, 1);
+    fill(&tally, 2);
+    told("power for a cell that has a slot", laea_tally_add_power(&tally, 1, 9, -1, 2.0));
+    told("cell that has no slot cleared", laea_tally_clear(&tally, 1, -7, -1));
+    told("loop 2 clears a cell", laea_tally_clear(&tally, 2, 8, -1));
+    told("power for another cell of loop 1", laea_tally_add_power(&tally, 1, -7, -1, 2.0));
+    told("power for another cell of loop 2", laea_tally_add_power(&tally, 2, -7, -1, 2.0));
+    read_cell(&tally, 1, 8, -1);
+    read_cell(&tally, 2, 8, -1);
+    read_cell(&tally, 1, 9, -1);
+    read_cell(&tally, 2, -7, -1);
+    printf("slot 168 is of loop %" PRIu64 ", cell %" PRId64 " %" PRId64 "\n",
+           tally.slots[168].cell.loop_number, tally.slots[168].cell.east, tally.slots[168].cell.north);
 }
 
 /* A tally of a side that no cell has: it is empty, and every call on it is refused. */
@@ -237,10 +257,11 @@ static void other_side(void)
 
     told("tally of 500 m", laea_tally_new(&tally, 50000));
     printf("its side is %" PRId64 " cm\n", tally.side);
-    told("power", laea_tally_add_power(&tally, 0, 0, 1.0));
-    told("overload", laea_tally_add_overload(&tally, 0, 0, 1.0));
-    told("clear", laea_tally_clear(&tally, 0, 0));
-    read_cell(&tally, 0, 0);
+    told("power", laea_tally_add_power(&tally, 1, 0, 0, 1.0));
+    told("overload", laea_tally_add_overload(&tally, 1, 0, 0, 1.0));
+    told("clear", laea_tally_clear(&tally, 1, 0, 0));
+    read_cell(&tally, 1, 0, 0);
+    read_cell(&tally, 0, 0, 0);
 }
 
 /* Sets with a wrong field: each call tells the first. */

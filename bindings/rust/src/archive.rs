@@ -4,25 +4,25 @@
 
 use crate::{Set, SLOT_COUNT};
 
-/// A cell's numbers along the two axes.
+/// A cell of a control loop.
 #[derive(Clone, Copy, Debug, PartialEq, Eq)]
 #[repr(C)]
-pub struct CellNumbers {
+pub struct LoopCell {
+    /// 1 or 2; 0 in a slot that is free.
+    pub loop_number: u64,
     pub east: i64,
     pub north: i64,
 }
 
-/// What a tally holds of one cell.
+/// What a tally holds of one cell of a loop.
 #[derive(Clone, Copy, Debug, PartialEq, Eq)]
 #[repr(C)]
 pub struct Slot {
-    pub cell: CellNumbers,
+    pub cell: LoopCell,
     /// In nanowatts.
     pub sum: u64,
     pub count: u64,
     pub overloads: u64,
-    /// 0 where the slot is free, any other number where it is held.
-    pub held: u64,
 }
 
 /// Every bit pattern is a value of every field.
@@ -94,25 +94,33 @@ extern "C" {
 
     pub fn laea1_read_code(text: *const u8, text_length: usize, out: *mut [i64; 3]) -> u8;
 
-    pub fn laea1_tally_new(side: i64) -> TallyResult;
+    pub fn laea2_tally_new(side: i64) -> TallyResult;
 
-    pub fn laea1_tally_add_power(
+    pub fn laea2_tally_add_power(
         tally: Tally,
+        loop_number: u64,
         east: i64,
         north: i64,
         milliwatts: f64,
     ) -> TallyResult;
 
-    pub fn laea1_tally_add_overload(
+    pub fn laea2_tally_add_overload(
         tally: Tally,
+        loop_number: u64,
         east: i64,
         north: i64,
         milliwatts: f64,
     ) -> TallyResult;
 
-    pub fn laea1_tally_clear(tally: Tally, east: i64, north: i64) -> TallyResult;
+    pub fn laea2_tally_clear(tally: Tally, loop_number: u64, east: i64, north: i64) -> TallyResult;
 
-    pub fn laea1_tally_read(tally: Tally, east: i64, north: i64, out: *mut [u64; 3]) -> u8;
+    pub fn laea2_tally_read(
+        tally: Tally,
+        loop_number: u64,
+        east: i64,
+        north: i64,
+        out: *mut [u64; 3],
+    ) -> u8;
 
     pub fn laea1_set_refusal(set: Set) -> u8;
 

@@ -5,7 +5,7 @@
 //! whose functions are written and proved in Rattle; this crate gives them Rust's types and adds
 //! nothing to the answers. Every input is answered: with finite numbers, or with a [`Refusal`].
 //! [`cell`] tells the map cell that a position lies in, [`GridCode`] writes and reads a cell's code,
-//! and [`Tally`] sums the power received in each cell.
+//! and [`Tally`] sums the power received in each cell, for two control loops.
 //!
 //! ```
 //! use laea::{Position, Set};
@@ -65,15 +65,15 @@ pub use lists::LIST_MOST;
 pub use positions::{PlanePosition, Position, WholePlanePosition, WholePosition};
 pub use refusal::Refusal;
 pub use set::Set;
-pub use tally::{CellSums, Reading, Tally, READINGS_MOST, SLOT_COUNT};
+pub use tally::{CellSums, Reading, Tally, READINGS_MOST, SHARED_SLOTS, SLOT_COUNT, SURE_SLOTS};
 
 /// The examples of the README are run with the tests.
 #[cfg(doctest)]
 #[doc = include_str!("../README.md")]
 struct Readme;
 
-/// The version of this crate as one number: 600 is 0.6.0.
-pub const VERSION: u32 = 600;
+/// The version of this crate as one number: 700 is 0.7.0.
+pub const VERSION: u32 = 700;
 
 /// The version of the archive that is linked, as one number like [`VERSION`].
 ///

@@ -8,8 +8,8 @@ use core::fmt;
 /// The names are those of `include/laea.h`. The first that applies is told: of a single point 11 to
 /// 16, 2, 3, 4 in this order; of a list call 5, 6, 11 to 16, and then of each point 2, 3, 4; of a
 /// code to be written 3, 32, 33, and of a text to be read as one 31; of a reading to be added to a
-/// tally 3, 41, 42, 43, 44, and of its other calls 3. Both coordinates are tested for 2 before either
-/// is for 3, and both cell numbers for 3 before either is for 32.
+/// tally 45, 3, 41, 42, 43, 44, and of its other calls 45, 3. Both coordinates are tested for 2 before
+/// either is for 3, and both cell numbers for 3 before either is for 32.
 ///
 /// ```
 /// use laea::{Position, Refusal, Set};
@@ -58,8 +58,12 @@ pub enum Refusal {
     PowerOutOfLimits,
     /// 43: the cell has [`READINGS_MOST`](crate::READINGS_MOST) readings, of both kinds together.
     FullCell,
-    /// 44: the cell has no slot in the tally, and none is free.
-    NoFreeSlot,
+    /// 44: the cell has no slot in the tally, and its loop gets no new one: it holds
+    /// [`SURE_SLOTS`](crate::SURE_SLOTS) or more, and the slots that the two loops hold beyond that
+    /// number are [`SHARED_SLOTS`](crate::SHARED_SLOTS) or more together.
+    NoNewSlot,
+    /// 45: the loop number is not 1 or 2.
+    BadLoop,
     /// A number that this version of the crate has no name for.
     Unknown(u8),
 }
@@ -95,7 +99,8 @@ impl Refusal {
             41 => Refusal::PowerNotFinite,
             42 => Refusal::PowerOutOfLimits,
             43 => Refusal::FullCell,
-            44 => Refusal::NoFreeSlot,
+            44 => Refusal::NoNewSlot,
+            45 => Refusal::BadLoop,
             unknown => Refusal::Unknown(unknown),
         })
     }
@@ -120,7 +125,8 @@ impl Refusal {
             Refusal::PowerNotFinite => 41,
             Refusal::PowerOutOfLimits => 42,
             Refusal::FullCell => 43,
-            Refusal::NoFreeSlot => 44,
+            Refusal::NoNewSlot => 44,
+            Refusal::BadLoop => 45,
             Refusal::Unknown(number) => number,
         }
     }
@@ -155,7 +161,8 @@ impl Refusal {
             Refusal::PowerNotFinite => "the power is NaN or infinite",
             Refusal::PowerOutOfLimits => "the power is below 0 or above 1,000 mW",
             Refusal::FullCell => "the cell has 1,000,000 readings",
-            Refusal::NoFreeSlot => "the cell has no slot, and none of the 256 is free",
+            Refusal::NoNewSlot => "the cell has no slot, and its loop gets no new one",
+            Refusal::BadLoop => "the loop number is not 1 or 2",
             Refusal::Unknown(_) => "unknown refusal number",
         }
     }
@@ -192,7 +199,7 @@ mod tests {
             let refusal = answer(number, ()).unwrap_err();
             assert_eq!(Refusal::from_number(number), Some(refusal));
             assert_eq!(refusal.number(), number);
-            let known = matches!(number, 2..=6 | 11..=16 | 31..=33 | 41..=44);
+            let known = matches!(number, 2..=6 | 11..=16 | 31..=33 | 41..=45);
             assert_eq!(refusal == Refusal::Unknown(number), !known);
             assert!(refusal
                 .to_string()

@@ -67,6 +67,10 @@ fn numbers() {
     assert_eq!(defined(&header, "LAEA_CODE_MOST") as usize, laea::CODE_MOST);
     let slots = defined(&header, "LAEA_SLOT_COUNT") as usize;
     assert_eq!(slots, laea::SLOT_COUNT);
+    let sure = defined(&header, "LAEA_SURE_SLOTS") as usize;
+    assert_eq!(sure, laea::SURE_SLOTS);
+    let shared = defined(&header, "LAEA_SHARED_SLOTS") as usize;
+    assert_eq!(shared, laea::SHARED_SLOTS);
     let readings = u64::from(defined(&header, "LAEA_READINGS_MOST"));
     assert_eq!(readings, laea::READINGS_MOST);
 }

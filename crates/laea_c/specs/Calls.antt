@@ -14,15 +14,15 @@ use Rattle.parameters.specs.ParameterSet.{setOf}
 use Rattle.pairs.specs.declared.Row.{Row}
 use Rattle.row_lists.specs.Rows.{zeros}
 use Rattle.point_lists.specs.Lists.{listRefusal, listAnswer, ListCall}
-use Rattle.slots.specs.declared.CellNumbers.{CellNumbers}
+use Rattle.slots.specs.declared.LoopCell.{LoopCell}
 use Rattle.tallies.specs.declared.SumsAnswer.{SumsAnswer}
 use Rattle.tallies.specs.Tallies.{sums-told}
 use Rattle.c_answers.specs.Answers.{countAfter, sumsAfter}
 use Rattle.laea_c.specs.declared.sets.Set.{Set}
 
--- the version 0.6.0: 10,000 times the major number, 100 times the minor one, and the patch
+-- the version 0.7.0: 10,000 times the major number, 100 times the minor one, and the patch
 abbrev pub version : ℕ
-version = 600
+version = 700
 
 -- the parameter set of these fields
 abbrev pub parametersOf : Set → Parameters
@@ -48,9 +48,9 @@ pub record CodeReadAnswered (told : CodeTold) (out out′ : List ℤ) (r : ℕ) 
   pub result-is : r ≡ told .refusal
   pub out-is : out′ ≡ written r (told .side ∷ told .east ∷ told .north ∷ []) out
 
--- the cell with these numbers
-abbrev pub cellNumbers : ℤ → ℤ → CellNumbers
-cellNumbers east north = record { east = east; north = north }
+-- the loop's cell with these numbers
+abbrev pub loopCell : ℕ → ℤ → ℤ → LoopCell
+loopCell loop east north = record { «loop_number» = loop; east = east; north = north }
 
 -- A call that reads a cell of a tally: the result is its refusal number; `out` has sum, count and overload count where that is 0, else what it had.
 pub record SumsAnswered (answer : SumsAnswer) (out out′ : List ℕ) (r : ℕ) : Type 0 where

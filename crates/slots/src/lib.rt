@@ -1,4 +1,4 @@
-// The slots of a tally: which cell has one, which is free, and a slot with one reading more.
+// The slots of a tally: which cell of a loop has one, which is free, and a slot with one reading more.
 use readings::Reading;
 use readings::nanowatts;
 use units::both;
@@ -18,9 +18,10 @@ pub const READINGS_MOST: u64 = 1_000_000;
 // The greatest sum that a slot holds.
 const SUM_MOST: u64 = 0xffff_ffff_ffff_ffff;
 
-// A cell's numbers along the two axes.
+// A cell of a control loop: the loop's number, and the cell's numbers along the two axes. Cells of two loops are two cells.
 #[repr(C)]
-pub struct CellNumbers {
+pub struct LoopCell {
+    pub loop_number: u64,
     pub east: i64,
     pub north: i64,
 }
@@ -28,14 +29,12 @@ pub struct CellNumbers {
 // Every bit pattern is a value of every field.
 #[repr(C)]
 pub struct Slot {
-    // the cell that has the slot
-    pub cell: CellNumbers,
+    // the cell that has the slot; its loop number is 0 where the slot is free
+    pub cell: LoopCell,
     // in nanowatts
     pub sum: u64,
     pub count: u64,
     pub overloads: u64,
-    // 0 where the slot is free
-    pub held: u64,
 }
 
 // A slot that no cell has.
@@ -43,36 +42,49 @@ pub fn empty_slot() -> Slot
     ensures { λ r. ⌜ r ≡ emptySlot ⌝ }
 {
     Slot {
-        cell: CellNumbers { east: 0, north: 0 },
+        cell: LoopCell {
+            loop_number: 0,
+            east: 0,
+            north: 0,
+        },
         sum: 0,
         count: 0,
         overloads: 0,
-        held: 0,
     }
 }
 
 // Whether both are one cell.
-fn is_same_cell(one: CellNumbers, other: CellNumbers) -> bool
+fn is_same_cell(one: LoopCell, other: LoopCell) -> bool
     ensures { λ r. ⌜ r ≡ sameCell one other ⌝ }
 {
     both(
-        is_within(other.east, other.east, one.east),
-        is_within(other.north, other.north, one.north),
+        one.loop_number == other.loop_number,
+        both(
+            is_within(other.east, other.east, one.east),
+            is_within(other.north, other.north, one.north),
+        ),
     )
 }
 
+// Whether no cell has the slot.
+fn is_free(slot: Slot) -> bool
+    ensures { λ r. ⌜ r ≡ free slot ⌝ }
+{
+    slot.cell.loop_number == 0
+}
+
 // Whether the cell has the slot.
-fn is_held_by(slot: Slot, cell: CellNumbers) -> bool
+fn is_held_by(slot: Slot, cell: LoopCell) -> bool
     ensures { λ r. ⌜ r ≡ holds cell slot ⌝ }
 {
-    if slot.held == 0 {
+    if is_free(slot) {
         return false;
     }
     is_same_cell(slot.cell, cell)
 }
 
 // The index of the cell's slot; SLOT_COUNT where it has none.
-pub fn slot_of(slots: [Slot; 256], cell: CellNumbers) -> usize
+pub fn slot_of(slots: [Slot; 256], cell: LoopCell) -> usize
     ensures { λ r. ⌜ r ≡ indexOf (holds cell) slots ⌝ }
 {
     let mut i = 0;
@@ -93,7 +105,7 @@ pub fn free_slot(slots: [Slot; 256]) -> usize
     let mut i = 0;
     while i < SLOT_COUNT {
         let slot = slots[i];
-        if slot.held == 0 {
+        if is_free(slot) {
             return i;
         }
         i = i + 1;
@@ -119,7 +131,7 @@ fn capped_sum(a: u64, b: u64) -> u64
 }
 
 // The cell's slot with one reading more.
-pub fn with_reading(reading: Reading, cell: CellNumbers, slot: Slot) -> Slot
+pub fn with_reading(reading: Reading, cell: LoopCell, slot: Slot) -> Slot
     requires { ⌜ (readingRefusal reading ≡ 0) × (full slot ≡ false) ⌝ }
     ensures { λ r. ⌜ r ≡ withReading reading cell slot ⌝ }
 {
@@ -129,14 +141,12 @@ pub fn with_reading(reading: Reading, cell: CellNumbers, slot: Slot) -> Slot
             sum: capped_sum(slot.sum, nanowatts(milliwatts)),
             count: slot.count + 1,
             overloads: slot.overloads,
-            held: 1,
         },
         Reading::Overloaded(_) => Slot {
             cell,
             sum: slot.sum,
             count: slot.count,
             overloads: slot.overloads + 1,
-            held: 1,
         },
     }
 }

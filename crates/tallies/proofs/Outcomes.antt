@@ -10,14 +10,15 @@ use mir.Syntax.{w64}
 use mir.Val.{toZ, ofZ, SFits}
 use mir.Facts.{toZ-ofZ}
 use borrow.Author.Tests.{lt-ltb, le-ltb}
-use Rattle.units.specs.Refusals.{out-of-limits, full-cell, no-free-slot}
+use Rattle.units.specs.Refusals.{out-of-limits, full-cell, no-new-slot}
 use Rattle.units.proofs.Chains.{first-given}
 use Rattle.cells.specs.Cells.{accepted-side}
 use Rattle.readings.specs.declared.Reading.{Reading}
 use Rattle.readings.specs.Readings.{readingRefusal}
-use Rattle.slots.specs.declared.CellNumbers.{CellNumbers}
+use Rattle.slots.specs.declared.LoopCell.{LoopCell}
 use Rattle.slots.specs.declared.Slot.{Slot}
-use Rattle.slots.specs.Slots.{slot-count, emptySlot, holds, indexOf, slotOf, placeOf, full, withReading}
+use Rattle.slots.specs.Slots.{slot-count, emptySlot, holds, indexOf, slotOf, full, withReading}
+use Rattle.shares.specs.Shares.{placeOf}
 use Rattle.tallies.specs.declared.Tally.{Tally}
 use Rattle.tallies.specs.declared.TallyAnswer.the-variants.{Done, Refused}
 use Rattle.tallies.specs.declared.SumsAnswer.the-variants.{Refused as Unread}
@@ -51,7 +52,7 @@ module _ (side : ℤ) (slot : Slot) (slot-is : slot ≡ emptySlot) where
 
 -- the side is handed on by its bits
 pub named-is :
-    (side : ℤ) (cell : CellNumbers) {n : ℕ} →
+    (side : ℤ) (cell : LoopCell) {n : ℕ} →
     SFits w64 side →
     n ≡ namedRefusal (toZ w64 (ofZ w64 side)) cell →
     namedRefusal side cell ≡ n
@@ -59,12 +60,12 @@ named-is side cell fits e = sym (e ∙ ap (λ (z : ℤ). namedRefusal z cell) (t
 
 -- ---- the tests of the slots
 
-module _ (cell : CellNumbers) (slots : List Slot) where
+module _ (cell : LoopCell) (slots : List Slot) where
   pub slot-full : full (slotOf cell slots) ≡ true → slotRefusal slots cell ≡ full-cell
   unfolding slotRefusal
   slot-full h = rw h
 
-  pub slot-none : full (slotOf cell slots) ≡ false → length slots ≤ placeOf cell slots → slotRefusal slots cell ≡ no-free-slot
+  pub slot-none : full (slotOf cell slots) ≡ false → length slots ≤ placeOf cell slots → slotRefusal slots cell ≡ no-new-slot
   unfolding slotRefusal
   slot-none room h = rw (room, le-ltb (placeOf cell slots) (length slots) h)
 
@@ -74,7 +75,7 @@ module _ (cell : CellNumbers) (slots : List Slot) where
 
 -- ---- adding
 
-module _ (tally : Tally) (cell : CellNumbers) (reading : Reading) where
+module _ (tally : Tally) (cell : LoopCell) (reading : Reading) where
   add-refused : (n : ℕ) → (n ≡ 0 → ⊥) → addRefusal tally cell reading ≡ n → refusedWith n tally ≡ added tally cell reading
   unfolding added
   add-refused n some e = rw e (next-refused n _ tally some)
@@ -110,7 +111,7 @@ module _ (tally : Tally) (cell : CellNumbers) (reading : Reading) where
 
 -- ---- clearing
 
-module _ (tally : Tally) (cell : CellNumbers) where
+module _ (tally : Tally) (cell : LoopCell) where
   pub clear-refused : (n : ℕ) → (n ≡ 0 → ⊥) → namedRefusal (tally .side) cell ≡ n → refusedWith n tally ≡ cleared tally cell
   unfolding cleared
   clear-refused n some e = rw e (next-refused n _ tally some)

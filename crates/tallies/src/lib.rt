@@ -1,23 +1,24 @@
-// A running tally of power per cell: document 02, e). A tally goes in by value, and the next one comes back.
+// A running tally of power per cell of two control loops: document 02, e) and f). A tally goes in by value, and the next one comes back.
 use cells::is_side;
 use cells::numbers_refusal;
 use readings::Reading;
 use readings::reading_refusal;
-use slots::CellNumbers;
+use shares::new_slot;
+use slots::LoopCell;
 use slots::SLOT_COUNT;
 use slots::Slot;
 use slots::empty_slot;
-use slots::free_slot;
 use slots::is_full;
 use slots::slot_of;
 use slots::with_reading;
+use units::refusals::BAD_LOOP;
 use units::refusals::FULL_CELL;
-use units::refusals::NO_FREE_SLOT;
+use units::refusals::NO_NEW_SLOT;
 use units::refusals::OUT_OF_LIMITS;
 ghost use mathlib.Core.Path.{_≡_};
 ghost use Prim.Native.Nat.{_<_};
 ghost use lib.ListN.{set};
-ghost use Rattle.tallies.specs.Tallies.{namedRefusal, made, added, cleared, readFrom, sumsIn};
+ghost use Rattle.tallies.specs.Tallies.{isLoop, namedRefusal, made, added, cleared, readFrom, sumsIn};
 
 // Every bit pattern is a value of every field.
 #[repr(C)]
@@ -55,10 +56,23 @@ pub struct ReadTally {
     pub answer: SumsAnswer,
 }
 
-// The refusal of a side or of a cell that no position has; 0 is none.
-fn named_refusal(side: i64, cell: CellNumbers) -> u8
+// Whether there is a loop of this number.
+fn is_loop(loop_number: u64) -> bool
+    ensures { λ r. ⌜ r ≡ isLoop «loop_number» ⌝ }
+{
+    if loop_number == 1 {
+        return true;
+    }
+    loop_number == 2
+}
+
+// The refusal of a loop number, of a side or of a cell that no position has; 0 is none.
+fn named_refusal(side: i64, cell: LoopCell) -> u8
     ensures { λ r. ⌜ r ≡ namedRefusal side cell ⌝ }
 {
+    if !is_loop(cell.loop_number) {
+        return BAD_LOOP;
+    }
     numbers_refusal(side, cell.east, cell.north)
 }
 
@@ -116,8 +130,8 @@ impl Tally {
         }
     }
 
-    // Adds a reading to a cell.
-    pub fn add(self, cell: CellNumbers, reading: Reading) -> NextTally
+    // Adds a reading to a cell of a loop.
+    pub fn add(self, cell: LoopCell, reading: Reading) -> NextTally
         ensures { λ r. ⌜ r ≡ added self cell reading ⌝ }
     {
         let bad_cell = named_refusal(self.side, cell);
@@ -137,15 +151,15 @@ impl Tally {
             }
             return with_slot(self, own, with_reading(reading, cell, slot));
         }
-        let free = free_slot(slots);
-        if free < SLOT_COUNT {
-            return with_slot(self, free, with_reading(reading, cell, empty_slot()));
+        let new = new_slot(slots, cell.loop_number);
+        if new < SLOT_COUNT {
+            return with_slot(self, new, with_reading(reading, cell, empty_slot()));
         }
-        refused(self, NO_FREE_SLOT)
+        refused(self, NO_NEW_SLOT)
     }
 
     // Frees a cell's slot, with all that it holds.
-    pub fn clear(self, cell: CellNumbers) -> NextTally
+    pub fn clear(self, cell: LoopCell) -> NextTally
         ensures { λ r. ⌜ r ≡ cleared self cell ⌝ }
     {
         let bad_cell = named_refusal(self.side, cell);
@@ -164,7 +178,7 @@ impl Tally {
     }
 
     // Reads a cell's sum and counts.
-    pub fn read(self, cell: CellNumbers) -> ReadTally
+    pub fn read(self, cell: LoopCell) -> ReadTally
         ensures { λ r. ⌜ r ≡ readFrom self cell ⌝ }
     {
         let bad_cell = named_refusal(self.side, cell);

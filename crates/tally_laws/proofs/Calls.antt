@@ -1,7 +1,7 @@
--- A call's number is what its tests give, and the tally after it changes only where that is 0. The tests of the cell stand first in every call and
--- give 0 or 3. Assumes nothing.
-use mathlib.Core.Path.{_≡_, refl, _∙_}
-use mathlib.Core.Bool.{false, not}
+-- A call's number is what its tests give, and the tally after it changes only where that is 0. The tests of the loop number and the cell stand first in
+-- every call and give 0, 45 or 3. Assumes nothing.
+use mathlib.Core.Path.{_≡_, refl, sym, ap, _∙_}
+use mathlib.Core.Bool.{true, false, not}
 use mathlib.Core.List.{List, [], _∷_}
 use mathlib.Core.Logic.{inl, inr}
 use Prim.Native.Nat.{ℕ, zero, suc, _<_}
@@ -10,23 +10,25 @@ use lib.Dec.{ltb}
 use lib.IntN.{ℤ}
 use lib.ListN.{length, set}
 use borrow.Author.Tests.{not-true, ltb-true}
-use Rattle.units.specs.Refusals.{out-of-limits, power-not-finite, power-out-of-limits, full-cell, no-free-slot, OneOf}
+use Rattle.units.specs.Refusals.{out-of-limits, power-not-finite, power-out-of-limits, full-cell, no-new-slot, bad-loop, OneOf}
 use Rattle.units.specs.Answers.{answered}
 use Rattle.units.proofs.Chains.{link-passed, both-passed, first-given, Gives, chain}
 use Rattle.cells.specs.Cells.{numbersRefusal}
 use Rattle.readings.specs.declared.Reading.{Reading}
 use Rattle.readings.specs.Readings.{powerRefusal, readingRefusal}
-use Rattle.slots.specs.declared.CellNumbers.{CellNumbers}
+use Rattle.slots.specs.declared.LoopCell.{LoopCell}
 use Rattle.slots.specs.declared.Slot.{Slot}
 use Rattle.tallies.specs.declared.Tally.{Tally}
 use Rattle.tallies.specs.declared.TallyAnswer.the-variants.{Done, Refused}
 use Rattle.tallies.specs.declared.SumsAnswer.{SumsAnswer}
 use Rattle.tallies.specs.declared.SumsAnswer.the-variants.{Refused as Unread}
-use Rattle.slots.specs.Slots.{emptySlot, holds, indexOf, slotOf, placeOf, full, withReading}
-use Rattle.tallies.specs.Tallies.{sideRefusal, namedRefusal, slotRefusal, addRefusal}
+use Rattle.slots.specs.Slots.{emptySlot, holds, indexOf, slotOf, full, withReading}
+use Rattle.shares.specs.Shares.{placeOf}
+use Rattle.tallies.specs.Tallies.{sideRefusal, isLoop, namedRefusal, slotRefusal, addRefusal}
 use Rattle.tallies.specs.Tallies.{tally-told, sums-told, next, made, added, cleared, sumsIn, readFrom}
-use Rattle.tally_laws.specs.Histories.{Call, adding, clearing, reading, cellIn, numberOf, after}
-use Rattle.tally_laws.specs.Theorems.{OthersRefused, RefusedUnchanged, CellDecides, MadeNumbers, AddNumbers, ClearNumbers, ReadNumbers}
+use Rattle.tally_laws.specs.Histories.{Call, adding, clearing, reading, cellIn, answerOf, changing, numberOf, after}
+use Rattle.tally_laws.specs.Theorems.{OtherLoopsRefused, OthersRefused, RefusedUnchanged, CellDecides}
+use Rattle.tally_laws.specs.Theorems.{MadeNumbers, AddNumbers, ClearNumbers, ReadNumbers}
 
 -- ---- the number
 
@@ -53,15 +55,19 @@ number-is tally (clearing cell) = done-told (namedRefusal (tally .side) cell)
 number-is tally (reading cell) =
     told (λ (a : SumsAnswer). sums-told a .refusal) Unread (sumsIn (slotOf cell (tally .slots))) refl (λ n. refl) (namedRefusal (tally .side) cell)
 
+-- of making and of calls that change the tally the number decides the answer
+pub answer-is : (tally : Tally) (cell : LoopCell) (r : Reading) → answerOf tally (adding cell r) ≡ changing (answered Refused (numberOf tally (adding cell r)) Done)
+unfolding added
+answer-is tally cell r = ap (λ (n : ℕ). changing (answered Refused n Done)) (sym (done-told (addRefusal tally cell r)))
+
 pub cell-decides : CellDecides
-unfolding namedRefusal
 cell-decides tally cell = (number-is tally (clearing cell), number-is tally (reading cell))
 
 -- ---- which numbers there are
 
-cell-numbers : (side : ℤ) (cell : CellNumbers) → OneOf (0 ∷ out-of-limits ∷ []) (namedRefusal side cell)
+cell-numbers : (side : ℤ) (cell : LoopCell) → OneOf (0 ∷ bad-loop ∷ out-of-limits ∷ []) (namedRefusal side cell)
 unfolding namedRefusal numbersRefusal
-cell-numbers side cell = let g : Gives (0 ∷ out-of-limits ∷ []) (namedRefusal side cell) = search chain depth 40 in g .one
+cell-numbers side cell = let g : Gives (0 ∷ bad-loop ∷ out-of-limits ∷ []) (namedRefusal side cell) = search chain depth 40 in g .one
 
 pub made-numbers : MadeNumbers
 unfolding made sideRefusal
@@ -71,7 +77,7 @@ pub add-numbers : AddNumbers
 unfolding addRefusal namedRefusal numbersRefusal powerRefusal slotRefusal
 add-numbers tally cell r = rw (number-is tally (adding cell r)) (given .one)
   where
-    given : Gives (0 ∷ out-of-limits ∷ power-not-finite ∷ power-out-of-limits ∷ full-cell ∷ no-free-slot ∷ []) (addRefusal tally cell r)
+    given : Gives (0 ∷ bad-loop ∷ out-of-limits ∷ power-not-finite ∷ power-out-of-limits ∷ full-cell ∷ no-new-slot ∷ []) (addRefusal tally cell r)
     given = search chain depth 40
 
 pub clear-numbers : ClearNumbers
@@ -95,11 +101,7 @@ refusal-unchanged tally (reading cell) some = refl
 pub refused-unchanged : RefusedUnchanged
 refused-unchanged tally call some = refusal-unchanged tally call (λ e. some (number-is tally call ∙ e))
 
-the-other : {n : ℕ} → OneOf (0 ∷ out-of-limits ∷ []) n → (n ≡ 0 → ⊥) → n ≡ out-of-limits
-the-other (inl e) some = absurd (some e)
-the-other (inr (inl e)) some = e
-
--- the cell's tests stand first
+-- the tests of the loop number and the cell stand first
 cell-first :
     (tally : Tally) (call : Call) →
     (namedRefusal (tally .side) (cellIn call) ≡ 0 → ⊥) →
@@ -109,18 +111,46 @@ cell-first tally (adding cell r) some = first-given (namedRefusal (tally .side) 
 cell-first tally (clearing cell) some = refl
 cell-first tally (reading cell) some = refl
 
+refused-by-name :
+    (tally : Tally) (call : Call) (n : ℕ) →
+    (n ≡ 0 → ⊥) →
+    namedRefusal (tally .side) (cellIn call) ≡ n →
+    (numberOf tally call ≡ n) × (after tally call ≡ tally)
+refused-by-name tally call n some e =
+    let number = number-is tally call ∙ cell-first tally call (λ z. some (sym e ∙ z)) ∙ e in
+    (number, refused-unchanged tally call (λ z. some (sym number ∙ z)))
+
+pub other-loops-refused : OtherLoopsRefused
+unfolding namedRefusal
+other-loops-refused tally call bad = refused-by-name tally call bad-loop (λ z. omega arith) (rw bad)
+
+numbers-refused : (side east north : ℤ) → (numbersRefusal side east north ≡ 0 → ⊥) → numbersRefusal side east north ≡ out-of-limits
+unfolding numbersRefusal
+numbers-refused side east north some = the-other (g .one)
+  where
+    g : Gives (0 ∷ out-of-limits ∷ []) (numbersRefusal side east north)
+    g = search chain depth 40
+
+    the-other : OneOf (0 ∷ out-of-limits ∷ []) (numbersRefusal side east north) → numbersRefusal side east north ≡ out-of-limits
+    the-other (inl e) = absurd (some e)
+    the-other (inr (inl e)) = e
+
 pub others-refused : OthersRefused
 unfolding namedRefusal
-others-refused tally call some = (number, refused-unchanged tally call (λ e. omega (arith, number)))
-  where
-    number : numberOf tally call ≡ out-of-limits
-    number = number-is tally call ∙ cell-first tally call some ∙ the-other (cell-numbers (tally .side) (cellIn call)) some
+others-refused tally call good some =
+    refused-by-name tally call out-of-limits (λ z. omega arith)
+    (rw good (numbers-refused (tally .side) (cellIn call .east) (cellIn call .north) some))
 
 -- ---- a call that is accepted
 
-module _ (tally : Tally) (cell : CellNumbers) where
+module _ (tally : Tally) (cell : LoopCell) where
+  pub loop-passed : namedRefusal (tally .side) cell ≡ 0 → isLoop (cell .«loop_number») ≡ true
+  unfolding namedRefusal
+  loop-passed e = link-passed (isLoop (cell .«loop_number»)) 44 e .0
+
   -- the tests that an add has passed
   pub record Passed (r : Reading) : Type 0 where
+    pub good-loop : isLoop (cell .«loop_number») ≡ true
     pub good-reading : readingRefusal r ≡ 0
     pub room : full (slotOf cell (tally .slots)) ≡ false
     pub place : placeOf cell (tally .slots) < length (tally .slots)
@@ -132,7 +162,7 @@ module _ (tally : Tally) (cell : CellNumbers) where
       let second = both-passed (readingRefusal r) _ (first .1) in
       let third = link-passed (not (full (slotOf cell (tally .slots)))) 42 (second .1) in
       let fourth = link-passed (ltb (placeOf cell (tally .slots)) (length (tally .slots))) 43 (third .1) in
-      record { good-reading = second .0; room = not-true _ (third .0); place = ltb-true _ _ (fourth .0) }
+      record { good-loop = loop-passed (first .0); good-reading = second .0; room = not-true _ (third .0); place = ltb-true _ _ (fourth .0) }
 
   pub add-slots :
       (r : Reading) →

@@ -9,10 +9,8 @@ use native.Mathlib.Nat.{not-suc-le-zero, le-of-suc-le-suc}
 use native.Mathlib.Omega.{arith}
 use lib.ListN.{length, getD, set, replicate}
 use Rattle.slots.specs.Slots.{indexOf}
-use Rattle.tally_laws.specs.Theorems.{passing}
-
-abbrev pub bit : Bool → ℕ
-bit t = cond t 1 0
+use Rattle.shares.specs.Shares.{passing}
+use Rattle.shares.proofs.Counting.{bit}
 
 module _ {A : Type 0} (test : A → Bool) where
   -- one element in another's place

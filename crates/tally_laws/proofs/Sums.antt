@@ -13,7 +13,7 @@ use Rattle.readings.specs.declared.Reading.{Reading}
 use Rattle.readings.specs.declared.Reading.the-variants.{Power, Overloaded}
 use Rattle.readings.specs.Readings.{readingRefusal}
 use Rattle.readings.proofs.Powers.{power-bounded}
-use Rattle.slots.specs.declared.CellNumbers.{CellNumbers}
+use Rattle.slots.specs.declared.LoopCell.{LoopCell}
 use Rattle.slots.specs.declared.Slot.{Slot}
 use Rattle.slots.specs.Slots.{emptySlot, most-readings, full, withReading}
 use Rattle.tally_laws.specs.Histories.{sumOf, countOf, overloadsOf}
@@ -43,7 +43,7 @@ module _ {rs : List Reading} {slot : Slot} (h : Holding rs slot) where
   pub sum-bounded : sumOf rs ≤ 1_000_000_000_000_000
   sum-bounded = omega (arith, kinds rs)
 
-  pub holding-more : (cell : CellNumbers) (r : Reading) → readingRefusal r ≡ 0 → full slot ≡ false → Holding (r ∷ rs) (withReading r cell slot)
+  pub holding-more : (cell : LoopCell) (r : Reading) → readingRefusal r ≡ 0 → full slot ≡ false → Holding (r ∷ rs) (withReading r cell slot)
   holding-more cell (Power milliwatts) good room =
       let power = power-bounded milliwatts good in
       let room-left = leb-false most-readings (length rs) (sym full-is ∙ room) in

@@ -1,40 +1,58 @@
 -- Document 02, e): "After any calls from an empty tally, every sum and count equals that of the accepted readings in the history since the cell was
--- last cleared." The calls and their answers as a list, and what the paper reads from it. From `withCall` on all is worked out from the calls and
--- their numbers alone: no definition there takes a tally or a slot.
+-- last cleared." And f): "Request e)'s history rule is then read per loop." The calls and their answers as a list, and what the paper reads from it.
+-- From `withCall` on all is worked out from the calls and their numbers alone: no definition there takes a tally or a slot.
 use Prim.Native.Nat.{ℕ, zero, suc, _+_}
-use mathlib.Core.Bool.{not, cond}
+use mathlib.Core.Bool.{not, _&&_, _||_, cond}
 use mathlib.Core.List.{List, [], _∷_}
-use lib.Dec.{ltb, leb}
+use lib.Dec.{ltb, leb, eqb}
 use lib.IntN.{ℤ}
 use lib.ListN.{length}
-use Rattle.units.specs.Refusals.{full-cell, no-free-slot, unless, firstOf}
-use Rattle.cells.specs.Cells.{numbersRefusal}
+use Rattle.units.specs.Refusals.{full-cell, no-new-slot, unless, firstOf}
 use Rattle.readings.specs.declared.Reading.{Reading}
 use Rattle.readings.specs.declared.Reading.the-variants.{Power, Overloaded}
 use Rattle.readings.specs.Readings.{readingRefusal, nanowattsOf}
-use Rattle.slots.specs.declared.CellNumbers.{CellNumbers}
+use Rattle.slots.specs.declared.LoopCell.{LoopCell}
 use Rattle.tallies.specs.declared.Tally.{Tally}
-use Rattle.slots.specs.Slots.{slot-count, sameCell, most-readings}
-use Rattle.tallies.specs.Tallies.{tally-told, sums-told, added, cleared, readFrom}
+use Rattle.tallies.specs.declared.TallyAnswer.{TallyAnswer}
+use Rattle.tallies.specs.declared.SumsAnswer.{SumsAnswer}
+use Rattle.slots.specs.Slots.{sameCell, most-readings}
+use Rattle.shares.specs.Shares.{granted}
+use Rattle.tallies.specs.Tallies.{namedRefusal, tally-told, sums-told, added, cleared, readFrom}
 
 -- ---- calls
 
 pub data Call : Type 0 where
-  adding : CellNumbers → Reading → Call
-  clearing : CellNumbers → Call
-  reading : CellNumbers → Call
+  adding : LoopCell → Reading → Call
+  clearing : LoopCell → Call
+  reading : LoopCell → Call
 
 -- the cell that a call names
-abbrev pub cellIn : Call → CellNumbers
+abbrev pub cellIn : Call → LoopCell
 cellIn (adding cell r) = cell
 cellIn (clearing cell) = cell
 cellIn (reading cell) = cell
 
--- the number of a call's answer, 0 where it is accepted
+-- the number of the loop whose call it is
+abbrev pub loopIn : Call → ℕ
+loopIn call = cellIn call .«loop_number»
+
+-- what a call answers
+pub data Answer : Type 0 where
+  changing : TallyAnswer → Answer
+  telling : SumsAnswer → Answer
+
+abbrev pub answerOf : Tally → Call → Answer
+answerOf tally (adding cell r) = changing (added tally cell r .answer)
+answerOf tally (clearing cell) = changing (cleared tally cell .answer)
+answerOf tally (reading cell) = telling (readFrom tally cell .answer)
+
+-- the number of an answer, 0 where the call is accepted
+abbrev pub numberIn : Answer → ℕ
+numberIn (changing answer) = tally-told answer
+numberIn (telling answer) = sums-told answer .refusal
+
 abbrev pub numberOf : Tally → Call → ℕ
-numberOf tally (adding cell r) = tally-told (added tally cell r .answer)
-numberOf tally (clearing cell) = tally-told (cleared tally cell .answer)
-numberOf tally (reading cell) = sums-told (readFrom tally cell .answer) .refusal
+numberOf tally call = numberIn (answerOf tally call)
 
 -- the tally that it gives
 abbrev pub after : Tally → Call → Tally
@@ -57,22 +75,22 @@ unfoldable pub history : Tally → List Call → List Answered
 history tally [] = []
 history tally (call ∷ calls) = record { call = call; number = numberOf tally call } ∷ history (after tally call) calls
 
+-- what a step makes of a history, call after call
+unfoldable pub folded : {A : Type 0} → (Call → ℕ → A → A) → A → List Answered → A
+folded step x [] = x
+folded step x (a ∷ later) = folded step (step (a .call) (a .number) x) later
+
 -- ---- "the accepted readings in the history since the cell was last cleared"
 
 -- the readings of a cell after one more call, the latest first; a refused call changes nothing
-abbrev pub withCall : CellNumbers → Call → ℕ → List Reading → List Reading
+abbrev pub withCall : LoopCell → Call → ℕ → List Reading → List Reading
 withCall cell (adding other r) zero rs = cond (sameCell other cell) (r ∷ rs) rs
 withCall cell (clearing other) zero rs = cond (sameCell other cell) [] rs
 withCall cell (reading other) zero rs = rs
 withCall cell call (suc number) rs = rs
 
--- the readings of a cell after a history, from those before it
-unfoldable pub readingsFrom : CellNumbers → List Reading → List Answered → List Reading
-readingsFrom cell rs [] = rs
-readingsFrom cell rs (a ∷ later) = readingsFrom cell (withCall cell (a .call) (a .number) rs) later
-
-abbrev pub readingsOf : CellNumbers → List Answered → List Reading
-readingsOf cell = readingsFrom cell []
+abbrev pub readingsOf : LoopCell → List Answered → List Reading
+readingsOf cell = folded (withCall cell) []
 
 -- their sum in nanowatts, their count and their overload count
 abbrev pub sumOf : List Reading → ℕ
@@ -90,32 +108,38 @@ overloadsOf [] = 0
 overloadsOf (Power milliwatts ∷ rs) = overloadsOf rs
 overloadsOf (Overloaded milliwatts ∷ rs) = suc (overloadsOf rs)
 
--- ---- the cells that have a reading since they were last cleared, each once
+-- ---- the cells of a loop that have a reading since they were last cleared, each once
 
 -- all cells of a list but this one
-unfoldable pub without : CellNumbers → List CellNumbers → List CellNumbers
+unfoldable pub without : LoopCell → List LoopCell → List LoopCell
 without cell [] = []
 without cell (x ∷ xs) = cond (sameCell x cell) (without cell xs) (x ∷ without cell xs)
 
-abbrev pub cellsWith : Call → ℕ → List CellNumbers → List CellNumbers
-cellsWith (adding cell r) zero cells = cell ∷ without cell cells
-cellsWith (clearing cell) zero cells = without cell cells
-cellsWith (reading cell) zero cells = cells
-cellsWith call (suc number) cells = cells
+abbrev pub cellsWith : ℕ → Call → ℕ → List LoopCell → List LoopCell
+cellsWith loop (adding cell r) zero cells = cond (eqb (cell .«loop_number») loop) (cell ∷ without cell cells) cells
+cellsWith loop (clearing cell) zero cells = cond (eqb (cell .«loop_number») loop) (without cell cells) cells
+cellsWith loop (reading cell) zero cells = cells
+cellsWith loop call (suc number) cells = cells
 
-unfoldable pub cellsFrom : List CellNumbers → List Answered → List CellNumbers
-cellsFrom cells [] = cells
-cellsFrom cells (a ∷ later) = cellsFrom (cellsWith (a .call) (a .number) cells) later
+abbrev pub cellsOf : ℕ → List Answered → List LoopCell
+cellsOf loop = folded (cellsWith loop) []
 
-abbrev pub cellsOf : List Answered → List CellNumbers
-cellsOf = cellsFrom []
+-- for each loop, how many they are
+abbrev pub heldBy : List Answered → ℕ → ℕ
+heldBy calls loop = length (cellsOf loop calls)
 
 -- ---- the answer to an add, from the history alone
 
--- "43 the cell has 1,000,000 readings of both kinds together, 44 no slot is free and the cell has none": 256 other cells have one
-unfoldable pub addNumber : ℤ → List Answered → CellNumbers → Reading → ℕ
+-- "43 the cell has 1,000,000 readings of both kinds together"; "44 now means the rule above": the cell has no reading, and its loop does not get a slot
+unfoldable pub addNumber : ℤ → List Answered → LoopCell → Reading → ℕ
 addNumber side calls cell r =
-    firstOf (numbersRefusal side (cell .east) (cell .north))
+    firstOf (namedRefusal side cell)
     (firstOf (readingRefusal r)
     (unless (not (leb most-readings (length (readingsOf cell calls)))) full-cell
-    (unless (ltb (length (without cell (cellsOf calls))) slot-count) no-free-slot 0)))
+    (unless (ltb 0 (length (readingsOf cell calls)) || granted (heldBy calls) (cell .«loop_number»)) no-new-slot 0)))
+
+-- ---- "its own accepted calls, in their order"
+
+unfoldable pub acceptedOf : ℕ → List Answered → List Call
+acceptedOf loop [] = []
+acceptedOf loop (a ∷ later) = cond (eqb (loopIn (a .call)) loop && eqb (a .number) 0) (a .call ∷ acceptedOf loop later) (acceptedOf loop later)

@@ -10,6 +10,7 @@ use cells::SIDE_10_KM;
 use cells::SIDE_100_M;
 use readings::Reading;
 use tallies::Tally;
+use units::refusals::BAD_LOOP;
 use units::refusals::OUT_OF_LIMITS;
 use units::refusals::POWER_NOT_FINITE;
 use units::refusals::POWER_OUT_OF_LIMITS;
@@ -20,7 +21,7 @@ pub(crate) fn sides() {
     make(SIDE_1_KM, 0);
     make(SIDE_10_KM, 0);
     let tally = make(1_000, OUT_OF_LIMITS);
-    let cell = cell_at(0, 0);
+    let cell = cell_at(1, 0, 0);
     let tally = add(tally, cell, Reading::Power(1.0), OUT_OF_LIMITS);
     let tally = clear(tally, cell, OUT_OF_LIMITS);
     look(tally, cell);
@@ -28,14 +29,14 @@ pub(crate) fn sides() {
 
 // A power is added to the cell and read, and the cell is cleared.
 fn power(tally: Tally, milliwatts: f64, nanowatts: u64) -> Tally {
-    let cell = cell_at(3_962, 2_999);
+    let cell = cell_at(1, 3_962, 2_999);
     let tally = add(tally, cell, Reading::Power(milliwatts), 0);
     let tally = read(tally, cell, nanowatts, 1, 0);
     clear(tally, cell, 0)
 }
 
 fn refused(tally: Tally, milliwatts: f64, right: u8) -> Tally {
-    let cell = cell_at(3_962, 2_999);
+    let cell = cell_at(1, 3_962, 2_999);
     let tally = add(tally, cell, Reading::Power(milliwatts), right);
     add(tally, cell, Reading::Overloaded(milliwatts), right)
 }
@@ -61,8 +62,8 @@ pub(crate) fn powers() {
 // Two cells and the slot that the first leaves: a reading of the second stays with the others of its cell.
 pub(crate) fn slots() {
     let tally = make(SIDE_1_KM, 0);
-    let west = cell_at(-1, 2_999);
-    let east = cell_at(0, 2_999);
+    let west = cell_at(1, -1, 2_999);
+    let east = cell_at(1, 0, 2_999);
     let tally = read(tally, west, 0, 0, 0);
     let tally = clear(tally, west, 0);
     let tally = add(tally, west, Reading::Power(2.0), 0);
@@ -79,9 +80,46 @@ pub(crate) fn slots() {
 // Numbers past the last cells of 10 km.
 pub(crate) fn out_of_limits() {
     let tally = make(SIDE_10_KM, 0);
-    let tally = add(tally, cell_at(5_000, -5_000), Reading::Overloaded(1.0), 0);
-    let tally = read(tally, cell_at(5_000, -5_000), 0, 0, 1);
-    let tally = add(tally, cell_at(5_001, 0), Reading::Power(1.0), OUT_OF_LIMITS);
-    let tally = clear(tally, cell_at(0, -5_001), OUT_OF_LIMITS);
-    look(tally, cell_at(0, 5_001));
+    let tally = add(
+        tally,
+        cell_at(1, 5_000, -5_000),
+        Reading::Overloaded(1.0),
+        0,
+    );
+    let tally = read(tally, cell_at(1, 5_000, -5_000), 0, 0, 1);
+    let tally = add(
+        tally,
+        cell_at(1, 5_001, 0),
+        Reading::Power(1.0),
+        OUT_OF_LIMITS,
+    );
+    let tally = clear(tally, cell_at(1, 0, -5_001), OUT_OF_LIMITS);
+    look(tally, cell_at(1, 0, 5_001));
+}
+
+// The calls of loops that there are not, on a tally of this side and with a power that is not finite.
+fn bad_loop(side: i64, right: u8, loop_number: u64) {
+    let tally = make(side, right);
+    let cell = cell_at(loop_number, 5_001, 0);
+    let tally = add(tally, cell, Reading::Power(1.0 / 0.0), BAD_LOOP);
+    let tally = clear(tally, cell, BAD_LOOP);
+    look(tally, cell);
+}
+
+// One cell of both loops, each with its own sums, and the loops that there are not.
+pub(crate) fn loops() {
+    let tally = make(SIDE_10_KM, 0);
+    let first = cell_at(1, 396, 299);
+    let second = cell_at(2, 396, 299);
+    let tally = add(tally, first, Reading::Power(2.0), 0);
+    let tally = read(tally, second, 0, 0, 0);
+    let tally = add(tally, second, Reading::Power(5.0), 0);
+    let tally = add(tally, second, Reading::Overloaded(5.0), 0);
+    let tally = read(tally, first, 2_000_000, 1, 0);
+    let tally = clear(tally, second, 0);
+    let tally = read(tally, first, 2_000_000, 1, 0);
+    read(tally, second, 0, 0, 0);
+    bad_loop(SIDE_10_KM, 0, 0);
+    bad_loop(1_000, OUT_OF_LIMITS, 3);
+    bad_loop(SIDE_10_KM, 0, 257);
 }

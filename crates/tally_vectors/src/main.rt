@@ -1,4 +1,5 @@
 // Runs histories of calls on tallies and prints what the library answers; the gate holds it to `stdout`.
+mod edges;
 mod few;
 mod many;
 mod million;
@@ -9,6 +10,9 @@ fn main() {
     few::powers();
     few::slots();
     few::out_of_limits();
+    few::loops();
+    edges::one_loop();
+    edges::both_loops();
     many::history();
     million::history();
 }

@@ -1,4 +1,4 @@
-// A long history on more cells than there are slots: most of the time all 256 are in use, and slots that are freed are used again.
+// A long history of both loops on more cells than there are slots: most of the time all 256 are in use, and slots that are freed are used again.
 use crate::rows::add;
 use crate::rows::cell_at;
 use crate::rows::clear;
@@ -7,23 +7,24 @@ use crate::rows::make;
 use crate::rows::read;
 use cells::SIDE_100_M;
 use readings::Reading;
-use slots::CellNumbers;
+use slots::LoopCell;
 use tallies::NextTally;
 use tallies::Tally;
-use units::refusals::NO_FREE_SLOT;
+use units::refusals::NO_NEW_SLOT;
 
 const CALLS: u64 = 20_000;
 
-// Cells in rows of twenty. Their number is a prime: the calls meet all of them, each with every kind of call.
+// Cells in rows of twenty, of one loop and of the other in turn. Their number is a prime: the calls meet all of them, each with every kind of call.
 const ROW: u64 = 20;
 
 const CELLS: u64 = 397;
 
 const STRIDE: u64 = 137;
 
-fn cell_of(k: u64) -> CellNumbers {
+fn cell_of(k: u64) -> LoopCell {
     let n = k % CELLS;
-    cell_at((n % ROW) as i64, (n / ROW) as i64)
+    let m = n / 2;
+    cell_at(1 + n % 2, (m % ROW) as i64, (m / ROW) as i64)
 }
 
 // The powers of call k and of its neighbours differ: 0 to 63 quarters of a milliwatt.
@@ -55,19 +56,19 @@ fn after_calls(first: Tally) -> Tally {
     tally
 }
 
-// 255 cells have a slot: the next gets the last one, and the one after it gets one that is freed for it.
+// 255 cells have a slot: the next gets the last one, and one of the other loop after it gets one that is freed for it.
 fn last_calls(tally: Tally) {
-    let held = cell_at(11, 3);
-    let next = cell_at(0, 0);
-    let late = cell_at(3, 0);
+    let held = cell_at(1, 19, 6);
+    let next = cell_at(1, 0, 0);
+    let late = cell_at(2, 1, 0);
     let tally = add(tally, next, Reading::Power(1.0), 0);
-    let tally = add(tally, late, Reading::Power(1.0), NO_FREE_SLOT);
-    let tally = add(tally, late, Reading::Overloaded(1.0), NO_FREE_SLOT);
+    let tally = add(tally, late, Reading::Power(1.0), NO_NEW_SLOT);
+    let tally = add(tally, late, Reading::Overloaded(1.0), NO_NEW_SLOT);
     let tally = add(tally, held, Reading::Power(1.0), 0);
-    let tally = read(tally, held, 36_000_000, 6, 2);
+    let tally = read(tally, held, 40_000_000, 6, 2);
     let tally = clear(tally, held, 0);
     let tally = add(tally, late, Reading::Power(2.0), 0);
-    let tally = add(tally, held, Reading::Power(1.0), NO_FREE_SLOT);
+    let tally = add(tally, held, Reading::Power(1.0), NO_NEW_SLOT);
     let tally = read(tally, held, 0, 0, 0);
     read(tally, late, 2_000_000, 1, 0);
 }

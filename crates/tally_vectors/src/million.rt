@@ -6,7 +6,7 @@ use crate::rows::make;
 use crate::rows::read;
 use cells::SIDE_10_KM;
 use readings::Reading;
-use slots::CellNumbers;
+use slots::LoopCell;
 use slots::READINGS_MOST;
 use tallies::Tally;
 use units::refusals::FULL_CELL;
@@ -14,7 +14,7 @@ use units::refusals::FULL_CELL;
 const GREATEST: f64 = 1_000.0;
 
 // The cell with READINGS_MOST readings.
-fn filled(first: Tally, cell: CellNumbers) -> Tally {
+fn filled(first: Tally, cell: LoopCell) -> Tally {
     let mut tally = first;
     let mut k: u64 = 0;
     while k < READINGS_MOST {
@@ -26,7 +26,7 @@ fn filled(first: Tally, cell: CellNumbers) -> Tally {
 }
 
 pub(crate) fn history() {
-    let cell = cell_at(-5_000, 5_000);
+    let cell = cell_at(2, -5_000, 5_000);
     let tally = filled(make(SIDE_10_KM, 0), cell);
     let tally = read(tally, cell, 1_000_000_000_000_000, 1_000_000, 0);
     let tally = add(tally, cell, Reading::Power(0.0), FULL_CELL);

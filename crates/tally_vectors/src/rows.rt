@@ -7,7 +7,7 @@ use printing::refusal;
 use printing::size;
 use printing::verdict;
 use readings::Reading;
-use slots::CellNumbers;
+use slots::LoopCell;
 use tallies::NextTally;
 use tallies::ReadTally;
 use tallies::SumsAnswer;
@@ -18,8 +18,12 @@ ghost use mathlib.Core.Path.{_≡_};
 ghost use Rattle.tallies.specs.Tallies.{made, added, cleared, readFrom};
 ghost use Rattle.tally_vectors.specs.Rows.{isNumber, isSums};
 
-pub(crate) fn cell_at(east: i64, north: i64) -> CellNumbers {
-    CellNumbers { east, north }
+pub(crate) fn cell_at(loop_number: u64, east: i64, north: i64) -> LoopCell {
+    LoopCell {
+        loop_number,
+        east,
+        north,
+    }
 }
 
 fn is_number(answer: TallyAnswer, right: u8) -> bool
@@ -63,7 +67,8 @@ fn show_answer(answer: TallyAnswer) {
     }
 }
 
-fn show_cell(cell: CellNumbers) {
+fn show_cell(cell: LoopCell) {
+    size(cell.loop_number);
     number(cell.east);
     number(cell.north);
 }
@@ -128,7 +133,7 @@ fn show_reading(reading: Reading) {
     }
 }
 
-pub(crate) fn add(tally: Tally, cell: CellNumbers, reading: Reading, right: u8) -> Tally
+pub(crate) fn add(tally: Tally, cell: LoopCell, reading: Reading, right: u8) -> Tally
     ensures { λ r. ⌜ r ≡ added tally cell reading .tally ⌝ }
 {
     print(b"add");
@@ -137,7 +142,7 @@ pub(crate) fn add(tally: Tally, cell: CellNumbers, reading: Reading, right: u8) 
     end(tally.add(cell, reading), right)
 }
 
-pub(crate) fn clear(tally: Tally, cell: CellNumbers, right: u8) -> Tally
+pub(crate) fn clear(tally: Tally, cell: LoopCell, right: u8) -> Tally
     ensures { λ r. ⌜ r ≡ cleared tally cell .tally ⌝ }
 {
     print(b"clear");
@@ -160,7 +165,7 @@ fn end_read(read: ReadTally, sum: u64, count: u64, overloads: u64) -> Tally
     read.tally
 }
 
-pub(crate) fn read(tally: Tally, cell: CellNumbers, sum: u64, count: u64, overloads: u64) -> Tally
+pub(crate) fn read(tally: Tally, cell: LoopCell, sum: u64, count: u64, overloads: u64) -> Tally
     ensures { λ r. ⌜ r ≡ readFrom tally cell .tally ⌝ }
 {
     print(b"read");
@@ -169,7 +174,7 @@ pub(crate) fn read(tally: Tally, cell: CellNumbers, sum: u64, count: u64, overlo
 }
 
 // Nothing is expected: the row is held to the stored output alone.
-pub(crate) fn look(tally: Tally, cell: CellNumbers) {
+pub(crate) fn look(tally: Tally, cell: LoopCell) {
     print(b"read");
     show_cell(cell);
     print(b":");

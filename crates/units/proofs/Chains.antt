@@ -9,6 +9,7 @@ use mathlib.Core.Logic.{_⊎_, inl, inr}
 use Prim.Native.Nat.{ℕ, zero, suc}
 use native.Mathlib.Omega.{arith}
 use lib.Dec.{T, eqb, eqb→eq}
+use borrow.Author.Tests.{eq-eqb}
 use mir.Facts.{and-yes, or-yes}
 use Rattle.units.specs.Refusals.{unless, firstOf, OneOf}
 
@@ -44,6 +45,16 @@ listed (x ∷ xs) n t = at (or-yes (eqb n x) (among xs n) t) (listed xs n)
     at : T (eqb n x) ⊎ T (among xs n) → (T (among xs n) → OneOf xs n) → OneOf (x ∷ xs) n
     at (inl h) later = inl (eqb→eq n x h)
     at (inr h) later = inr (later h)
+
+-- and none but these is among them
+pub is-among : (xs : List ℕ) (n : ℕ) → OneOf xs n → among xs n ≡ true
+is-among [] n i = absurd i
+is-among (x ∷ xs) n (inl e) = rw (eq-eqb n x e)
+is-among (x ∷ xs) n (inr i) = at (eqb n x) (is-among xs n i)
+  where
+    at : (t : Bool) → among xs n ≡ true → (t || among xs n) ≡ true
+    at true _ = refl
+    at false e = e
 
 pub number : {xs : List ℕ} {n : ℕ} → T (among xs n) → Gives xs n
 number {xs} {n} t = record { one = listed xs n t }

@@ -1,5 +1,5 @@
--- Document 01, "Refusal numbers", with those of requests a), c) and e) of document 02: the numbers by name, and chains of tests of which the first that
--- fails gives its number.
+-- Document 01, "Refusal numbers", with those of requests a), c), e) and f) of document 02: the numbers by name, and chains of tests of which the first
+-- that fails gives its number.
 use Prim.Native.Nat.{ℕ, zero, suc}
 use mathlib.Core.Bool.{Bool, true, false}
 use mathlib.Core.List.{List, [], _∷_}
@@ -56,8 +56,7 @@ negative-cell = 32
 abbrev pub little-room : ℕ
 little-room = 33
 
--- "41 NaN or infinite power, 42 below 0 or above 1,000 mW, 43 the cell has 1,000,000 readings of both kinds together, 44 no slot is free and the
--- cell has none"
+-- "41 NaN or infinite power, 42 below 0 or above 1,000 mW, 43 the cell has 1,000,000 readings of both kinds together"
 abbrev pub power-not-finite : ℕ
 power-not-finite = 41
 
@@ -67,8 +66,13 @@ power-out-of-limits = 42
 abbrev pub full-cell : ℕ
 full-cell = 43
 
-abbrev pub no-free-slot : ℕ
-no-free-slot = 44
+-- "44 now means the rule above": the cell has no slot, and its loop does not get a new one
+abbrev pub no-new-slot : ℕ
+no-new-slot = 44
+
+-- "45 for a loop number other than 1 or 2, tested first"
+abbrev pub bad-loop : ℕ
+bad-loop = 45
 
 -- where the test fails, the refusal number; else what the next tests say
 abbrev pub unless : Bool → ℕ → ℕ → ℕ

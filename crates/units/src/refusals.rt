@@ -48,8 +48,11 @@ pub const POWER_OUT_OF_LIMITS: u8 = 42;
 // The cell has 1,000,000 readings.
 pub const FULL_CELL: u8 = 43;
 
-// No slot is free, and the cell has none.
-pub const NO_FREE_SLOT: u8 = 44;
+// The cell has no slot, and its loop gets no new one.
+pub const NO_NEW_SLOT: u8 = 44;
+
+// The loop number is not 1 or 2.
+pub const BAD_LOOP: u8 = 45;
 
 // A link in a chain of tests: where the test fails its number, else what the next tests say.
 pub fn unless(passed: bool, number: u8, next: u8) -> u8

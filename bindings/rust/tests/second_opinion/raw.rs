@@ -5,7 +5,7 @@ use crate::archive::{self, Tally, TallyResult};
 use crate::calls::{Direction, Lists};
 use crate::code_rules::Code;
 use crate::steps::Set;
-use crate::tally_rules::Kind;
+use crate::tally_rules::{Kind, LoopCell};
 use std::ops::Range;
 use std::ptr::{null, null_mut};
 
@@ -167,25 +167,25 @@ pub type SumPlaces = [u64; 5];
 
 pub fn tally_new(side: i64) -> TallyResult {
     // SAFETY: the call takes every number and writes nothing but its result.
-    unsafe { archive::laea1_tally_new(side) }
+    unsafe { archive::laea2_tally_new(side) }
 }
 
-pub fn tally_add(tally: &Tally, cell: (i64, i64), kind: Kind, milliwatts: f64) -> TallyResult {
+pub fn tally_add(tally: &Tally, of: LoopCell, kind: Kind, milliwatts: f64) -> TallyResult {
     let call = match kind {
-        Kind::Power => archive::laea1_tally_add_power,
-        Kind::Overload => archive::laea1_tally_add_overload,
+        Kind::Power => archive::laea2_tally_add_power,
+        Kind::Overload => archive::laea2_tally_add_overload,
     };
     // SAFETY: the call takes every value of its arguments and writes nothing but its result.
-    unsafe { call(*tally, cell.0, cell.1, milliwatts) }
+    unsafe { call(*tally, of.0, of.1, of.2, milliwatts) }
 }
 
-pub fn tally_clear(tally: &Tally, cell: (i64, i64)) -> TallyResult {
+pub fn tally_clear(tally: &Tally, of: LoopCell) -> TallyResult {
     // SAFETY: the call takes every value of its arguments and writes nothing but its result.
-    unsafe { archive::laea1_tally_clear(*tally, cell.0, cell.1) }
+    unsafe { archive::laea2_tally_clear(*tally, of.0, of.1, of.2) }
 }
 
-pub fn tally_read(tally: &Tally, cell: (i64, i64), places: &mut SumPlaces) -> u8 {
+pub fn tally_read(tally: &Tally, of: LoopCell, places: &mut SumPlaces) -> u8 {
     let out = places[1..4].as_mut_ptr().cast();
     // SAFETY: the last argument is three places that may be written.
-    unsafe { archive::laea1_tally_read(*tally, cell.0, cell.1, out) }
+    unsafe { archive::laea2_tally_read(*tally, of.0, of.1, of.2, out) }
 }

@@ -5,29 +5,31 @@ use std::fmt::Debug;
 use crate::random::Random;
 use crate::report::Report;
 use crate::tally_calls::{
-    any_cell, bad_cell, bad_side, call, good_power, kind, last_number, pool, power, Call, Cell,
-    BAD_SIDES,
+    any_cell, any_loop, bad_cell, bad_loop, bad_side, call, good_power, kind, last_number, pool,
+    power, Call, Cell, BAD_SIDES,
 };
+use crate::tally_edges::{Asked, Walk, Walked};
 use crate::tally_rules::{
-    nanowatts, Kind, Model, Sums, ACCEPTED, BAD_CELL, CELL_FULL, MOST_CELLS, MOST_READINGS,
-    NOT_FINITE, NO_SLOT, OUT_OF_RANGE, SIDES,
+    nanowatts, Kind, LoopCell, Model, Sums, ACCEPTED, ALL_SLOTS, BAD_CELL, BAD_LOOP, CELL_FULL,
+    LOOPS, MOST_READINGS, NOT_FINITE, NO_SLOT, OUT_OF_RANGE, SIDES,
 };
 
-const ALL_NUMBERS: [u8; 6] = [
+const ALL_NUMBERS: [u8; 7] = [
     ACCEPTED,
     BAD_CELL,
     NOT_FINITE,
     OUT_OF_RANGE,
     CELL_FULL,
     NO_SLOT,
+    BAD_LOOP,
 ];
 
 /// A tally as the tests drive it: 0 for an accepted call, else the refusal number.
 pub trait Engine: Sized {
     fn make(side: i64) -> (Self, u8);
-    fn add(&mut self, east: i64, north: i64, kind: Kind, milliwatts: f64) -> u8;
-    fn clear(&mut self, east: i64, north: i64) -> u8;
-    fn read(&self, east: i64, north: i64) -> Result<Sums, u8>;
+    fn add(&mut self, of: LoopCell, kind: Kind, milliwatts: f64) -> u8;
+    fn clear(&mut self, of: LoopCell) -> u8;
+    fn read(&self, of: LoopCell) -> Result<Sums, u8>;
 }
 
 /// An engine and the model side by side.
@@ -37,6 +39,8 @@ struct Bench<E> {
     report: Report,
     engine: E,
     model: Model,
+    /// Those that a walk compares.
+    cells: Vec<Cell>,
 }
 
 impl<E: Engine> Bench<E> {
@@ -51,6 +55,7 @@ impl<E: Engine> Bench<E> {
             report: Report::new(name, seed),
             engine,
             model,
+            cells: Vec::new(),
         }
     }
 
@@ -71,17 +76,12 @@ impl<E: Engine> Bench<E> {
         self.report.inputs += 1;
         self.report.calls += 1;
         let (given, expected) = match call {
-            Call::Add(east, north, kind, milliwatts) => (
-                Err(self.engine.add(east, north, kind, milliwatts)),
-                Err(self.model.add(east, north, kind, milliwatts)),
+            Call::Add(of, kind, milliwatts) => (
+                Err(self.engine.add(of, kind, milliwatts)),
+                Err(self.model.add(of, kind, milliwatts)),
             ),
-            Call::Clear(east, north) => (
-                Err(self.engine.clear(east, north)),
-                Err(self.model.clear(east, north)),
-            ),
-            Call::Read(east, north) => {
-                (self.engine.read(east, north), self.model.read(east, north))
-            }
+            Call::Clear(of) => (Err(self.engine.clear(of)), Err(self.model.clear(of))),
+            Call::Read(of) => (self.engine.read(of), self.model.read(of)),
         };
         self.same(given, expected, || format!("{call:?}"));
         let number = given.err().unwrap_or(ACCEPTED);
@@ -90,33 +90,36 @@ impl<E: Engine> Bench<E> {
     }
 
     /// Adds a reading of which the number is known beforehand.
-    fn add(&mut self, cell: Cell, kind: Kind, milliwatts: f64, expected: u8) {
-        let call = Call::Add(cell.0, cell.1, kind, milliwatts);
+    fn add(&mut self, of: LoopCell, kind: Kind, milliwatts: f64, expected: u8) {
+        let call = Call::Add(of, kind, milliwatts);
         let given = self.call(call);
         self.same(given, expected, || format!("{call:?}"));
     }
 
     /// Clears a cell, which then reads as zeros.
-    fn clear(&mut self, cell: Cell) {
-        let given = self.call(Call::Clear(cell.0, cell.1));
-        self.same(given, ACCEPTED, || format!("clearing {cell:?}"));
-        self.reads(cell, Sums::default());
+    fn clear(&mut self, of: LoopCell) {
+        let given = self.call(Call::Clear(of));
+        self.same(given, ACCEPTED, || format!("clearing {of:?}"));
+        self.reads(of, Sums::default());
     }
 
     /// Reads a cell of which the sums are known beforehand.
-    fn reads(&mut self, cell: Cell, expected: Sums) {
+    fn reads(&mut self, of: LoopCell, expected: Sums) {
         self.report.calls += 1;
-        let given = self.engine.read(cell.0, cell.1);
-        self.same(given, Ok(expected), || format!("reading {cell:?}"));
+        let given = self.engine.read(of);
+        self.same(given, Ok(expected), || format!("reading {of:?}"));
     }
 
-    /// Reads these cells, good or bad, from both and compares.
+    /// Reads these cells, good or bad, of both loops from both and compares.
     fn compare(&mut self, cells: &[Cell]) {
         for &(east, north) in cells {
-            self.report.calls += 1;
-            let given = self.engine.read(east, north);
-            let expected = self.model.read(east, north);
-            self.same(given, expected, || format!("state of ({east}, {north})"));
+            for loop_number in LOOPS {
+                let of = (loop_number, east, north);
+                self.report.calls += 1;
+                let given = self.engine.read(of);
+                let expected = self.model.read(of);
+                self.same(given, expected, || format!("state of {of:?}"));
+            }
         }
     }
 
@@ -132,17 +135,31 @@ impl<E: Engine> Bench<E> {
     }
 }
 
-/// The cell of a call.
-fn cell_of(call: Call) -> Cell {
-    match call {
-        Call::Add(east, north, ..) | Call::Clear(east, north) | Call::Read(east, north) => {
-            (east, north)
+/// After each call its cell is compared, in both loops, and all cells after each hundred.
+impl<E: Engine> Walked for Bench<E> {
+    fn held(&self, loop_number: u64) -> usize {
+        self.model.held(loop_number)
+    }
+
+    fn has(&self, of: LoopCell) -> bool {
+        self.model.has(of)
+    }
+
+    fn call(&mut self, call: Call) -> u8 {
+        let number = Bench::call(self, call);
+        let (_, east, north) = call.of();
+        self.compare(&[(east, north)]);
+        if self.report.inputs % 100 == 0 {
+            let cells = std::mem::take(&mut self.cells);
+            self.compare(&cells);
+            self.cells = cells;
         }
+        number
     }
 }
 
-/// Three cells in each tally, all read after each call. From some 1,000 inputs on each
-/// expected number comes.
+/// Three cells in each tally, all read for both loops after each call. From some 1,000 inputs on
+/// each expected number comes.
 pub fn few_cells<E: Engine>(name: &'static str, seed: u64, inputs: u64) {
     let mut random = Random::new(seed);
     let mut bench = Bench::<E>::new(name, seed);
@@ -159,75 +176,79 @@ pub fn few_cells<E: Engine>(name: &'static str, seed: u64, inputs: u64) {
             bench.compare(&cells);
         }
     }
-    bench
-        .report
-        .end(&[ACCEPTED, BAD_CELL, NOT_FINITE, OUT_OF_RANGE]);
+    let numbers = [ACCEPTED, BAD_CELL, NOT_FINITE, OUT_OF_RANGE, BAD_LOOP];
+    bench.report.end(&numbers);
 }
 
-/// 300 cells in each tally, so that the slots run out and come free. The cell of a call is
-/// read after it, all cells after each hundred. From some 10,000 inputs on each expected
-/// number comes.
+/// 300 cells in each tally, walked over every edge of the rule for new slots. One walk meets each
+/// edge and each expected number.
 pub fn many_cells<E: Engine>(name: &'static str, seed: u64, inputs: u64) {
     let mut random = Random::new(seed);
     let mut bench = Bench::<E>::new(name, seed);
-    let mut fullest = 0;
-    while bench.report.inputs < inputs {
+    let mut asked = Asked::default();
+    loop {
         let side = random.pick(&SIDES);
         let last = last_number(side);
         let cells = pool(&mut random, last, 30, 300);
         bench.make(side);
-        let end = inputs.min(bench.report.inputs + 50_000);
-        let mut clears = 2;
-        while bench.report.inputs < end {
-            let length = random.between(20, 60);
-            for _ in 0..length {
-                fullest = fullest.max(hundred(&mut bench, &mut random, &cells, last, clears));
-            }
-            clears = random.pick(&[1, 4, 9, 10, 11, 40]);
+        bench.cells.clone_from(&cells);
+        Walk {
+            on: &mut bench,
+            asked: &mut asked,
+            random: &mut random,
+            cells: &cells,
+            last,
         }
+        .run();
+        bench.compare(&cells);
         refill(&mut bench, &mut random, &cells);
+        if bench.report.inputs >= inputs {
+            break;
+        }
     }
-    assert_eq!(
-        fullest, MOST_CELLS,
-        "{name}, seed {seed}: cells with a slot"
-    );
-    let numbers = [ACCEPTED, BAD_CELL, NOT_FINITE, OUT_OF_RANGE, NO_SLOT];
+    let numbers = [
+        ACCEPTED,
+        BAD_CELL,
+        NOT_FINITE,
+        OUT_OF_RANGE,
+        NO_SLOT,
+        BAD_LOOP,
+    ];
     bench.report.end(&numbers);
+    asked.end(name);
 }
 
-/// A hundred calls and a reading of all cells; gives the most cells with a slot.
-fn hundred<E: Engine>(
-    bench: &mut Bench<E>,
-    random: &mut Random,
-    cells: &[Cell],
-    last: i64,
-    clears: i64,
-) -> usize {
-    let mut fullest = 0;
-    for _ in 0..100 {
-        let call = call(random, cells, last, clears);
-        bench.call(call);
-        bench.compare(&[cell_of(call)]);
-        fullest = fullest.max(bench.model.cells());
-    }
-    bench.compare(cells);
-    fullest
-}
-
-/// Clears each cell, then gives each one reading: exactly the first 256 get a slot.
+/// Clears each cell, then gives each one reading in each loop: one loop after the other, and 160 and
+/// 96 cells get a slot; or in turns, and 128 of each do.
 fn refill<E: Engine>(bench: &mut Bench<E>, random: &mut Random, cells: &[Cell]) {
-    for &cell in cells {
-        bench.clear(cell);
+    for loop_number in LOOPS {
+        for &(east, north) in cells {
+            bench.clear((loop_number, east, north));
+        }
+        assert_eq!(bench.model.held(loop_number), 0, "slots after clearing");
     }
-    assert_eq!(bench.model.cells(), 0, "cells with a slot after clearing");
-    for (index, &cell) in cells.iter().enumerate() {
-        let number = if index < MOST_CELLS {
+    let first = random.pick(&LOOPS);
+    let loops = [first, 3 - first];
+    let all = |loop_number| cells.iter().map(move |&cell| (loop_number, cell));
+    let (order, most): (Vec<(u64, Cell)>, _) = if random.percent(50) {
+        (loops.into_iter().flat_map(all).collect(), [160, 96])
+    } else {
+        let turns = cells
+            .iter()
+            .flat_map(|&cell| loops.map(|each| (each, cell)));
+        (turns.collect(), [128, 128])
+    };
+    let mut tried = [0, 0];
+    for (loop_number, (east, north)) in order {
+        let at = usize::from(loop_number != first);
+        let number = if tried[at] < most[at] {
             ACCEPTED
         } else {
             NO_SLOT
         };
+        tried[at] += 1;
         let milliwatts = good_power(random);
-        bench.add(cell, kind(random), milliwatts, number);
+        bench.add((loop_number, east, north), kind(random), milliwatts, number);
     }
     bench.compare(cells);
 }
@@ -241,12 +262,13 @@ pub fn full_cell<E: Engine>(name: &'static str, seed: u64) {
     let mut random = Random::new(seed);
     let mut bench = Bench::<E>::new(name, seed);
     let side = random.pick(&SIDES);
-    let cells = pool(&mut random, last_number(side), 30, MOST_CELLS + 1);
-    let cell = random.pick(&cells[..MOST_CELLS]);
+    let cells = pool(&mut random, last_number(side), 30, 161);
     bench.make(side);
-    for &holder in &cells[..MOST_CELLS] {
-        bench.add(holder, kind(&mut random), 0.0, ACCEPTED);
-    }
+    let held = hold_all(&mut bench, &mut random, &cells);
+    let at = random.below(2);
+    let (east, north) = random.pick(&cells[..held[at]]);
+    let cell = (LOOPS[at], east, north);
+    let stranger = (LOOPS[at], cells[160].0, cells[160].1);
     let overloaded = Sums {
         overloads: MOST_READINGS,
         ..Sums::default()
@@ -262,7 +284,7 @@ pub fn full_cell<E: Engine>(name: &'static str, seed: u64) {
         (|_| (Kind::Power, 1_000.0), Some(loud)),
     ];
     for (draw, sums) in fills {
-        swap(&mut bench, cell, cells[MOST_CELLS]);
+        swap(&mut bench, cell, stranger);
         fill(&mut bench, &mut random, cell, draw);
         if let Some(sums) = sums {
             bench.reads(cell, sums);
@@ -273,49 +295,70 @@ pub fn full_cell<E: Engine>(name: &'static str, seed: u64) {
     bench.report.end(&ALL_NUMBERS);
 }
 
-/// Clears a cell, lends its slot to a stranger and gets it back.
-fn swap<E: Engine>(bench: &mut Bench<E>, cell: Cell, stranger: Cell) {
+/// Gives each loop slots for the first cells until none is free; tells how many each holds.
+fn hold_all<E: Engine>(bench: &mut Bench<E>, random: &mut Random, cells: &[Cell]) -> [usize; 2] {
+    let held = random.pick(&[[160, 96], [128, 128], [96, 160]]);
+    assert_eq!(held[0] + held[1], ALL_SLOTS);
+    for (loop_number, held) in LOOPS.into_iter().zip(held) {
+        for &(east, north) in &cells[..held] {
+            bench.add((loop_number, east, north), kind(random), 0.0, ACCEPTED);
+        }
+    }
+    held
+}
+
+/// Clears a cell, lends its slot to a stranger of the same loop and gets it back.
+fn swap<E: Engine>(bench: &mut Bench<E>, cell: LoopCell, stranger: LoopCell) {
     bench.add(stranger, Kind::Power, 1.0, NO_SLOT);
     bench.add(stranger, Kind::Overload, 1_001.0, OUT_OF_RANGE);
     bench.add(stranger, Kind::Power, f64::NAN, NOT_FINITE);
     bench.clear(cell);
     bench.add(stranger, Kind::Overload, 1.0, ACCEPTED);
     bench.add(cell, Kind::Overload, 1.0, NO_SLOT);
-    bench.compare(&[cell, stranger]);
+    bench.compare(&[cell, stranger].map(|(_, east, north)| (east, north)));
     bench.clear(stranger);
 }
 
 /// Adds readings to an empty cell until a million are accepted; reads it now and then, and
 /// after each of the last.
-fn fill<E: Engine>(bench: &mut Bench<E>, random: &mut Random, cell: Cell, draw: Draw) {
+fn fill<E: Engine>(bench: &mut Bench<E>, random: &mut Random, of: LoopCell, draw: Draw) {
     let mut readings = 0;
     while readings < MOST_READINGS {
         let (kind, milliwatts) = draw(random);
-        let number = bench.call(Call::Add(cell.0, cell.1, kind, milliwatts));
+        let number = bench.call(Call::Add(of, kind, milliwatts));
         readings += u64::from(number == ACCEPTED);
         if readings % 1_000 == 0 || readings > MOST_READINGS - 100 {
-            bench.compare(&[cell]);
+            bench.compare(&[(of.1, of.2)]);
         }
     }
 }
 
 /// Tries to add to a full cell.
-fn refuse_more<E: Engine>(bench: &mut Bench<E>, random: &mut Random, cell: Cell, last: i64) {
+fn refuse_more<E: Engine>(bench: &mut Bench<E>, random: &mut Random, of: LoopCell, last: i64) {
+    let cell = (of.1, of.2);
     for _ in 0..100 {
         let bad = bad_cell(random, cell, last);
+        let beyond = (of.0, bad.0, bad.1);
         for kind in [Kind::Power, Kind::Overload] {
-            bench.add(cell, kind, good_power(random), CELL_FULL);
-            bench.add(cell, kind, f64::NAN, NOT_FINITE);
-            bench.add(cell, kind, f64::NEG_INFINITY, NOT_FINITE);
-            bench.add(cell, kind, -5e-324, OUT_OF_RANGE);
-            bench.add(bad, kind, good_power(random), BAD_CELL);
-            bench.add(bad, kind, f64::NAN, BAD_CELL);
+            bench.add(of, kind, good_power(random), CELL_FULL);
+            bench.add(of, kind, f64::NAN, NOT_FINITE);
+            bench.add(of, kind, f64::NEG_INFINITY, NOT_FINITE);
+            bench.add(of, kind, -5e-324, OUT_OF_RANGE);
+            bench.add(beyond, kind, good_power(random), BAD_CELL);
+            bench.add(beyond, kind, f64::NAN, BAD_CELL);
+            let loop_number = bad_loop(random);
+            for (east, north) in [cell, bad] {
+                let of = (loop_number, east, north);
+                bench.add(of, kind, good_power(random), BAD_LOOP);
+                bench.add(of, kind, f64::NAN, BAD_LOOP);
+            }
             bench.compare(&[cell, bad]);
         }
     }
 }
 
-/// Tallies of sides that no cell has: the making and each call after it are refused 3.
+/// Tallies of sides that no cell has: the making is refused 3, and each call after it 3, or 45 where
+/// no loop has the number.
 pub fn bad_sides<E: Engine>(name: &'static str, seed: u64, inputs: u64) {
     let mut random = Random::new(seed);
     let mut bench = Bench::<E>::new(name, seed);
@@ -326,7 +369,7 @@ pub fn bad_sides<E: Engine>(name: &'static str, seed: u64, inputs: u64) {
         let side = bad_side(&mut random);
         bad_side_calls(&mut bench, &mut random, side);
     }
-    bench.report.end(&[BAD_CELL]);
+    bench.report.end(&[BAD_CELL, BAD_LOOP]);
 }
 
 fn bad_side_calls<E: Engine>(bench: &mut Bench<E>, random: &mut Random, side: i64) {
@@ -336,10 +379,11 @@ fn bad_side_calls<E: Engine>(bench: &mut Bench<E>, random: &mut Random, side: i6
     bench.make(side);
     bench.compare(&cells);
     for (east, north) in cells {
-        bench.call(Call::Add(east, north, kind(random), good_power(random)));
-        bench.call(Call::Add(east, north, kind(random), power(random)));
-        bench.call(Call::Read(east, north));
-        bench.call(Call::Clear(east, north));
+        let of = (any_loop(random), east, north);
+        bench.call(Call::Add(of, kind(random), good_power(random)));
+        bench.call(Call::Add(of, kind(random), power(random)));
+        bench.call(Call::Read(of));
+        bench.call(Call::Clear(of));
     }
     bench.compare(&cells);
 }
@@ -350,14 +394,15 @@ pub fn rounding<E: Engine>(name: &'static str, seed: u64, inputs: u64) {
     let mut random = Random::new(seed);
     let mut bench = Bench::<E>::new(name, seed);
     let side = random.pick(&SIDES);
-    let cell = any_cell(&mut random, last_number(side));
+    let (east, north) = any_cell(&mut random, last_number(side));
+    let of = (random.pick(&LOOPS), east, north);
     bench.make(side);
     for _ in 0..inputs {
         let milliwatts = power(&mut random);
         let kind = kind(&mut random);
-        let number = bench.call(Call::Add(cell.0, cell.1, kind, milliwatts));
-        bench.reads(cell, alone(number, kind, milliwatts));
-        bench.call(Call::Clear(cell.0, cell.1));
+        let number = bench.call(Call::Add(of, kind, milliwatts));
+        bench.reads(of, alone(number, kind, milliwatts));
+        bench.call(Call::Clear(of));
     }
     bench.report.inputs = inputs;
     bench.report.end(&[ACCEPTED, NOT_FINITE, OUT_OF_RANGE]);

@@ -1,7 +1,7 @@
-//! Hostile random sides, cells, powers and calls for a tally.
+//! Hostile random sides, loop numbers, cells, powers and calls for a tally.
 
 use crate::random::Random;
-use crate::tally_rules::{Kind, FARTHEST, SIDES};
+use crate::tally_rules::{Kind, LoopCell, FARTHEST, LOOPS, SIDES};
 
 /// East and north number of a cell.
 pub type Cell = (i64, i64);
@@ -9,10 +9,37 @@ pub type Cell = (i64, i64);
 /// A call of a tally that has been made.
 #[derive(Clone, Copy, Debug)]
 pub enum Call {
-    Add(i64, i64, Kind, f64),
-    Clear(i64, i64),
-    Read(i64, i64),
+    Add(LoopCell, Kind, f64),
+    Clear(LoopCell),
+    Read(LoopCell),
 }
+
+impl Call {
+    /// The loop number and the cell of a call.
+    pub fn of(self) -> LoopCell {
+        match self {
+            Call::Add(of, ..) | Call::Clear(of) | Call::Read(of) => of,
+        }
+    }
+}
+
+/// Numbers that no loop has; cut to fewer bits some of them are 1 or 2.
+pub const BAD_LOOPS: [u64; 14] = [
+    0,
+    3,
+    4,
+    255,
+    256,
+    257,
+    258,
+    65_537,
+    (1 << 32) + 1,
+    (1 << 32) + 2,
+    1 << 63,
+    (1 << 63) + 1,
+    u64::MAX - 1,
+    u64::MAX,
+];
 
 /// Sides that no cell has and that stand close to those that cells have.
 pub const BAD_SIDES: [i64; 34] = [
@@ -100,6 +127,24 @@ pub fn bad_side(random: &mut Random) -> i64 {
 /// One bit that a narrower whole number has no place for.
 fn high_bit(random: &mut Random) -> i64 {
     1 << random.between(20, 63)
+}
+
+/// A number that no loop has.
+pub fn bad_loop(random: &mut Random) -> u64 {
+    if random.percent(70) {
+        random.pick(&BAD_LOOPS)
+    } else {
+        random.pick(&LOOPS) + (1 << random.between(2, 63))
+    }
+}
+
+/// A loop, seldom a number that no loop has.
+pub fn any_loop(random: &mut Random) -> u64 {
+    if random.percent(4) {
+        bad_loop(random)
+    } else {
+        random.pick(&LOOPS)
+    }
 }
 
 /// A cell number, often at an end or near zero.
@@ -258,18 +303,31 @@ fn not_a_number(random: &mut Random) -> f64 {
     f64::from_bits(bits)
 }
 
-/// A call on a cell of the pool, seldom on a bad cell; `clears` in a hundred are clearings.
-/// Clearing and reading seldom take a cell that may not be in the pool. No reading is
-/// added to such a cell.
+/// A call of either loop, seldom of none, on a cell of the pool, seldom on a bad cell; `clears` in a
+/// hundred are clearings. Clearing and reading seldom take a cell that may not be in the pool. No
+/// reading is added to such a cell.
 pub fn call(random: &mut Random, pool: &[Cell], last: i64, clears: i64) -> Call {
+    let loop_number = any_loop(random);
+    call_of(random, loop_number, pool, last, clears)
+}
+
+/// The same of one loop.
+pub fn call_of(
+    random: &mut Random,
+    loop_number: u64,
+    pool: &[Cell],
+    last: i64,
+    clears: i64,
+) -> Call {
     let adds = !random.percent(clears + 8);
     let (east, north) = cell(random, pool, last, !adds);
+    let of = (loop_number, east, north);
     if adds {
-        Call::Add(east, north, kind(random), power(random))
+        Call::Add(of, kind(random), power(random))
     } else if random.between(1, clears + 8) <= clears {
-        Call::Clear(east, north)
+        Call::Clear(of)
     } else {
-        Call::Read(east, north)
+        Call::Read(of)
     }
 }
 

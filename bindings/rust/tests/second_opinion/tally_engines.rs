@@ -6,7 +6,7 @@ use crate::raw;
 use crate::single::filling;
 use crate::tallies::{self, Engine};
 use crate::tally_calls::good_power;
-use crate::tally_rules::{nanowatts, Kind, Sums};
+use crate::tally_rules::{nanowatts, Kind, LoopCell, Sums};
 use laea::{Cell, Reading, Refusal, Side, Tally};
 use std::cell::RefCell;
 
@@ -34,19 +34,19 @@ impl Engine for Archive {
         (engine, made.refusal)
     }
 
-    fn add(&mut self, east: i64, north: i64, kind: Kind, milliwatts: f64) -> u8 {
-        self.next(raw::tally_add(&self.tally, (east, north), kind, milliwatts))
+    fn add(&mut self, of: LoopCell, kind: Kind, milliwatts: f64) -> u8 {
+        self.next(raw::tally_add(&self.tally, of, kind, milliwatts))
     }
 
-    fn clear(&mut self, east: i64, north: i64) -> u8 {
-        self.next(raw::tally_clear(&self.tally, (east, north)))
+    fn clear(&mut self, of: LoopCell) -> u8 {
+        self.next(raw::tally_clear(&self.tally, of))
     }
 
-    fn read(&self, east: i64, north: i64) -> Result<Sums, u8> {
+    fn read(&self, of: LoopCell) -> Result<Sums, u8> {
         let before = [(); 5].map(|()| filling(&mut self.random.borrow_mut()));
         let mut places = before;
-        let number = raw::tally_read(&self.tally, (east, north), &mut places);
-        let told = || format!("reading ({east}, {north}): number {number}, before {before:?}");
+        let number = raw::tally_read(&self.tally, of, &mut places);
+        let told = || format!("reading {of:?}: number {number}, before {before:?}");
         if number != 0 {
             assert_eq!(places, before, "{}", told());
             return Err(number);
@@ -76,20 +76,20 @@ impl Engine for Wrapper {
         (Wrapper(tally), 0)
     }
 
-    fn add(&mut self, east: i64, north: i64, kind: Kind, milliwatts: f64) -> u8 {
+    fn add(&mut self, (loop_number, east, north): LoopCell, kind: Kind, milliwatts: f64) -> u8 {
         let reading = match kind {
             Kind::Power => Reading::Power(milliwatts),
             Kind::Overload => Reading::Overloaded(milliwatts),
         };
-        number(self.0.add(Cell { east, north }, reading))
+        number(self.0.add(loop_number, Cell { east, north }, reading))
     }
 
-    fn clear(&mut self, east: i64, north: i64) -> u8 {
-        number(self.0.clear(Cell { east, north }))
+    fn clear(&mut self, (loop_number, east, north): LoopCell) -> u8 {
+        number(self.0.clear(loop_number, Cell { east, north }))
     }
 
-    fn read(&self, east: i64, north: i64) -> Result<Sums, u8> {
-        match self.0.read(Cell { east, north }) {
+    fn read(&self, (loop_number, east, north): LoopCell) -> Result<Sums, u8> {
+        match self.0.read(loop_number, Cell { east, north }) {
             Ok(sums) => Ok(Sums {
                 sum: sums.sum,
                 count: sums.count,
@@ -102,7 +102,7 @@ impl Engine for Wrapper {
 
 #[test]
 fn few_cells() {
-    tallies::few_cells::<Archive>("laea1_tally, few cells", seed(), inputs());
+    tallies::few_cells::<Archive>("laea2_tally, few cells", seed(), inputs());
 }
 
 #[test]
@@ -112,7 +112,7 @@ fn few_cells_wrapped() {
 
 #[test]
 fn many_cells() {
-    tallies::many_cells::<Archive>("laea1_tally, many cells", seed(), inputs());
+    tallies::many_cells::<Archive>("laea2_tally, many cells", seed(), inputs());
 }
 
 #[test]
@@ -122,7 +122,7 @@ fn many_cells_wrapped() {
 
 #[test]
 fn full_cell() {
-    tallies::full_cell::<Archive>("laea1_tally, full cell", seed());
+    tallies::full_cell::<Archive>("laea2_tally, full cell", seed());
 }
 
 #[test]
@@ -132,12 +132,12 @@ fn full_cell_wrapped() {
 
 #[test]
 fn bad_sides() {
-    tallies::bad_sides::<Archive>("laea1_tally, sides that no cell has", seed(), inputs());
+    tallies::bad_sides::<Archive>("laea2_tally, sides that no cell has", seed(), inputs());
 }
 
 #[test]
 fn rounding() {
-    tallies::rounding::<Archive>("laea1_tally, rounding", seed(), inputs());
+    tallies::rounding::<Archive>("laea2_tally, rounding", seed(), inputs());
 }
 
 #[test]

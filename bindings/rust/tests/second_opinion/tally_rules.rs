@@ -1,4 +1,5 @@
-//! Request e), "Power per cell", as a model: a map from cells to wide sums.
+//! Requests e), "Power per cell", and f), "Two amplifiers, one tally", as a model: a map from the
+//! loops' cells to wide sums.
 
 use std::collections::BTreeMap;
 
@@ -12,8 +13,10 @@ pub const NOT_FINITE: u8 = 41;
 pub const OUT_OF_RANGE: u8 = 42;
 /// The cell has as many readings as it may have.
 pub const CELL_FULL: u8 = 43;
-/// No slot is free and the cell has none.
+/// The cell has no slot, and its loop gets no new one.
 pub const NO_SLOT: u8 = 44;
+/// A loop number other than 1 or 2.
+pub const BAD_LOOP: u8 = 45;
 
 /// The sides of cells, in cm.
 pub const SIDES: [i64; 3] = [10_000, 100_000, 1_000_000];
@@ -21,14 +24,24 @@ pub const SIDES: [i64; 3] = [10_000, 100_000, 1_000_000];
 pub const FARTHEST: i64 = 5_000_000_000;
 /// The readings of both kinds that one cell may have.
 pub const MOST_READINGS: u64 = 1_000_000;
-/// The cells that one tally may have.
-pub const MOST_CELLS: usize = 256;
+/// The loops that share a tally.
+pub const LOOPS: [u64; 2] = [1, 2];
+/// "Two control loops now share the 256 slots."
+pub const ALL_SLOTS: usize = 256;
+/// "Each loop is sure of 96 slots."
+pub const SURE: usize = 96;
+/// As many slots beyond 96 the two hold together when neither gets a further one.
+pub const SHARED: usize = 64;
 
 const SIGN: u64 = 1 << 63;
 /// Bits of infinity; those of every NaN without its sign are above it.
 const INFINITY: u64 = 0x7ff0_0000_0000_0000;
 /// Bits of 1000.0; doubles from 0.0 up stand in the order of their bits.
 const THOUSAND: u64 = 0x408f_4000_0000_0000;
+
+/// A loop number and a cell's numbers east and north, as a call takes them. "A cell of one loop is not a
+/// cell of the other."
+pub type LoopCell = (u64, i64, i64);
 
 /// What a reading is: a power, or the mark of an overload.
 #[derive(Clone, Copy, Debug, PartialEq, Eq)]
@@ -53,10 +66,10 @@ struct Wide {
     overloads: u128,
 }
 
-/// A tally: its side, and the cells with a reading since they were last cleared.
+/// A tally: its side, and the loops' cells with a reading since they were last cleared.
 pub struct Model {
     side: i64,
-    cells: BTreeMap<(i64, i64), Wide>,
+    cells: BTreeMap<LoopCell, Wide>,
 }
 
 impl Model {
@@ -75,10 +88,10 @@ impl Model {
     }
 
     /// Adds a reading, or says why not and stays as it is.
-    pub fn add(&mut self, east: i64, north: i64, kind: Kind, milliwatts: f64) -> u8 {
-        let number = self.refusal(east, north, milliwatts);
+    pub fn add(&mut self, of: LoopCell, kind: Kind, milliwatts: f64) -> u8 {
+        let number = self.add_refusal(of, milliwatts);
         if number == ACCEPTED {
-            let wide = self.cells.entry((east, north)).or_default();
+            let wide = self.cells.entry(of).or_default();
             match kind {
                 Kind::Power => {
                     wide.sum += u128::from(nanowatts(milliwatts));
@@ -91,20 +104,21 @@ impl Model {
     }
 
     /// Forgets the readings of a cell; an absent one changes nothing.
-    pub fn clear(&mut self, east: i64, north: i64) -> u8 {
-        if !self.is_cell(east, north) {
-            return BAD_CELL;
+    pub fn clear(&mut self, of: LoopCell) -> u8 {
+        let number = self.named_refusal(of);
+        if number == ACCEPTED {
+            self.cells.remove(&of);
         }
-        self.cells.remove(&(east, north));
-        ACCEPTED
+        number
     }
 
     /// The sums of a cell, zeros for an absent one.
-    pub fn read(&self, east: i64, north: i64) -> Result<Sums, u8> {
-        if !self.is_cell(east, north) {
-            return Err(BAD_CELL);
+    pub fn read(&self, of: LoopCell) -> Result<Sums, u8> {
+        match self.named_refusal(of) {
+            ACCEPTED => {}
+            number => return Err(number),
         }
-        let wide = self.wide(east, north);
+        let wide = self.wide(of);
         let narrow = |value: u128| u64::try_from(value).expect("a sum of at most 64 bits");
         Ok(Sums {
             sum: narrow(wide.sum),
@@ -113,33 +127,51 @@ impl Model {
         })
     }
 
-    /// How many cells have a slot.
-    pub fn cells(&self) -> usize {
-        self.cells.len()
+    /// How many cells of a loop have a reading, and with it a slot.
+    pub fn held(&self, loop_number: u64) -> usize {
+        let own = |of: &&LoopCell| of.0 == loop_number;
+        self.cells.keys().filter(own).count()
     }
 
-    fn wide(&self, east: i64, north: i64) -> Wide {
-        self.cells.get(&(east, north)).copied().unwrap_or_default()
+    /// Whether a cell has a reading.
+    pub fn has(&self, of: LoopCell) -> bool {
+        self.cells.contains_key(&of)
+    }
+
+    fn wide(&self, of: LoopCell) -> Wide {
+        self.cells.get(&of).copied().unwrap_or_default()
     }
 
     /// The first refusal that applies to a reading.
-    fn refusal(&self, east: i64, north: i64, milliwatts: f64) -> u8 {
-        if !self.is_cell(east, north) {
-            return BAD_CELL;
+    fn add_refusal(&self, of: LoopCell, milliwatts: f64) -> u8 {
+        let number = self.named_refusal(of);
+        if number != ACCEPTED {
+            return number;
         }
         let number = power_refusal(milliwatts);
         if number != ACCEPTED {
             return number;
         }
-        let wide = self.wide(east, north);
+        let wide = self.wide(of);
         if wide.count + wide.overloads >= u128::from(MOST_READINGS) {
             return CELL_FULL;
         }
-        let absent = !self.cells.contains_key(&(east, north));
-        if absent && self.cells.len() >= MOST_CELLS {
+        if !self.has(of) && !gets_new_slot(of.0, |loop_number| self.held(loop_number)) {
             return NO_SLOT;
         }
         ACCEPTED
+    }
+
+    /// 45 for a loop number other than 1 or 2, "tested first"; 3 "in every call, for a side or cell
+    /// number that the cell rule cannot give".
+    fn named_refusal(&self, (loop_number, east, north): LoopCell) -> u8 {
+        if !LOOPS.contains(&loop_number) {
+            BAD_LOOP
+        } else if !self.is_cell(east, north) {
+            BAD_CELL
+        } else {
+            ACCEPTED
+        }
     }
 
     /// True where the cell rule gives both numbers for this side. The sides divide the
@@ -151,6 +183,13 @@ impl Model {
         };
         SIDES.contains(&self.side) && inside(east) && inside(north)
     }
+}
+
+/// "A loop gets a new slot exactly when it holds fewer than 96, or when the slots held beyond 96 by the
+/// two together are fewer than 64." The function tells how many slots a loop holds.
+pub fn gets_new_slot(loop_number: u64, held: impl Fn(u64) -> usize) -> bool {
+    let beyond = LOOPS.map(|each| held(each).saturating_sub(SURE));
+    held(loop_number) < SURE || beyond[0] + beyond[1] < SHARED
 }
 
 /// 41, 42 or 0 for a power, from the bits of the double; -0.0 is 0.

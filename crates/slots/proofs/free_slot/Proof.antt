@@ -1,9 +1,9 @@
 -- `free_slot` meets its contract: it goes up until a slot is free. Assumes nothing.
+use borrow.Author.Needs.{needs}
 use mathlib.Core.Path.{_≡_, sym, _∙_}
 use Prim.Native.Nat.{_-_}
 use native.Mathlib.Omega.{arith}
 use lib.ListN.{length}
-use borrow.Author.Tests.{eq-eqb, ne-eqb}
 use Rattle.slots.specs.Slots.{emptySlot, free}
 use Rattle.slots.proofs.Searching.{Searched, searched-start, found, passed-over, none-left}
 use Rattle.slots.proofs.free_slot.Statement.{statement}
@@ -27,12 +27,14 @@ mul-slot c = omega arith
 array-copy-out-slot : tie.Need-array-copy-out-slot Inv-loop μ-loop
 array-copy-out-slot c = omega arith
 
+is-free-requires : tie.Need-is-free-requires Inv-loop μ-loop
+is-free-requires c κs = search needs
+
 returns : tie.Need-returns Inv-loop μ-loop
-unfolding free
 returns c =
     let at = c .before .before .before .before in
     let slots = at .before .args .t1 in
-    found free slots (at .loop .i) emptySlot (at .loop .inv) (omega (arith, all (at .before))) (eq-eqb _ 0 (c .if1 .taken))
+    found free slots (at .loop .i) emptySlot (at .loop .inv) (omega (arith, all (at .before))) (sym (c .before .is-free .ensures) ∙ c .if1 .taken)
 
 add-i : tie.Need-add-i Inv-loop μ-loop
 add-i c = omega arith
@@ -41,11 +43,10 @@ loop-less : tie.Need-loop-less Inv-loop μ-loop
 loop-less c = omega arith
 
 loop-again : tie.Need-loop-again Inv-loop μ-loop
-unfolding free
 loop-again c =
     let at = c .before .before .before .before in
     let slots = at .before .args .t1 in
-    passed-over free slots (at .loop .i) emptySlot (at .loop .inv) (omega (arith, all (at .before))) (ne-eqb _ 0 (c .if1 .left))
+    passed-over free slots (at .loop .i) emptySlot (at .loop .inv) (omega (arith, all (at .before))) (sym (c .before .is-free .ensures) ∙ c .if1 .left)
 
 returns-2 : tie.Need-returns-2 Inv-loop μ-loop
 returns-2 c =
@@ -62,6 +63,7 @@ free-slot-spec =
     loop-holds
     mul-slot
     array-copy-out-slot
+    is-free-requires
     returns
     add-i
     loop-less

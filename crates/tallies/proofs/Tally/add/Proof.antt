@@ -7,11 +7,12 @@ use native.Mathlib.Omega.{arith}
 use lib.ListN.{length, length-map, getD}
 use Rattle.readings.specs.declared.Reading.{Reading}
 use Rattle.readings.specs.Readings.{readingRefusal}
-use Rattle.slots.specs.declared.CellNumbers.{CellNumbers}
+use Rattle.slots.specs.declared.LoopCell.{LoopCell}
 use Rattle.tallies.specs.declared.Tally.{Tally}
 use Rattle.slots.specs.Slots.{emptySlot, slotOf, full}
 use Rattle.tallies.specs.Tallies.{namedRefusal}
-use Rattle.slots.proofs.Places.{own-place, own-slot, free-place, no-slot}
+use Rattle.slots.proofs.Places.{own-slot, no-slot}
+use Rattle.shares.proofs.Places.{own-place, new-place}
 use Rattle.tallies.proofs.Outcomes.{named-is, slot-full, slot-none, bad-cell, bad-reading, bad-slot, add-done}
 use Rattle.tallies.proofs.Tally.add.Statement.{statement}
 use Rattle.tallies.proofs.Tally.add.Tie as tie
@@ -39,7 +40,7 @@ module _ (c : tie.After-slot-of) where
   abbrev self : Tally
   self = start .args .self
 
-  abbrev cell : CellNumbers
+  abbrev cell : LoopCell
   cell = start .args .cell
 
   abbrev reading : Reading
@@ -54,8 +55,8 @@ module _ (c : tie.After-slot-of) where
   outside : {i : ℕ} → 256 ≤ i → length (self .slots) ≤ i
   outside h = omega (arith, all start)
 
-  own : c .slot-of .result < 256 → slotOf cell (self .slots) ≡ getD (self .slots) (c .slot-of .result) emptySlot
-  own h = own-slot cell (self .slots) (c .slot-of .result) (c .slot-of .ensures) (inside h)
+  own : slotOf cell (self .slots) ≡ getD (self .slots) (c .slot-of .result) emptySlot
+  own = own-slot cell (self .slots) (c .slot-of .result) (c .slot-of .ensures)
 
 named-refusal-requires : tie.Need-named-refusal-requires
 named-refusal-requires c κs = search needs
@@ -105,7 +106,7 @@ returns-3 c =
     let found = room .before .before .before in
     c .refused3 .ensures
     ∙ bad-slot (self found) (cell found) (reading found) (good-cell (found .before .before .before .before)) (good-reading found) 43 (λ e. omega arith)
-    (slot-full (cell found) (self found .slots) (ap full (own found (room .before .before .if3 .taken)) ∙ sym (room .is-full .ensures) ∙ c .before .if4 .taken))
+    (slot-full (cell found) (self found .slots) (ap full (own found) ∙ sym (room .is-full .ensures) ∙ c .before .if4 .taken))
 
 with-reading-requires : tie.Need-with-reading-requires
 with-reading-requires c κs =
@@ -124,12 +125,12 @@ returns-4 c =
     rw (made .with-reading .ensures) at (c .with-slot .ensures)
     ∙ add-done (self found) (cell found) (reading found) (good-cell (found .before .before .before .before)) (good-reading found) (found .slot-of .result) _
     (own-place (cell found) (self found .slots) (found .slot-of .result) (found .slot-of .ensures) (inside found place))
-    (own found place)
+    (own found)
     (sym (room .is-full .ensures) ∙ made .before .if4 .left)
     (inside found place)
 
-free-slot-requires : tie.Need-free-slot-requires
-free-slot-requires c κs = search needs
+new-slot-requires : tie.Need-new-slot-requires
+new-slot-requires c κs = search needs
 
 empty-slot-requires : tie.Need-empty-slot-requires
 empty-slot-requires c κs = search needs
@@ -146,13 +147,13 @@ returns-5 : tie.Need-returns-5
 returns-5 c =
     let made = c .before in
     let empty = made .before in
-    let free = empty .before .before in
-    let found = free .before .before in
-    let past = outside found (free .before .if3 .left) in
+    let new = empty .before .before in
+    let found = new .before .before in
+    let past = outside found (new .before .if3 .left) in
     let slot-is = no-slot (cell found) (self found .slots) (found .slot-of .result) (found .slot-of .ensures) past in
     rw (made .with-reading2 .ensures) at (c .with-slot2 .ensures)
-    ∙ add-done (self found) (cell found) (reading found) (good-cell (found .before .before .before .before)) (good-reading found) (free .free-slot .result) _
-    (free-place (cell found) (self found .slots) (found .slot-of .result) (found .slot-of .ensures) past ∙ sym (free .free-slot .ensures))
+    ∙ add-done (self found) (cell found) (reading found) (good-cell (found .before .before .before .before)) (good-reading found) (new .new-slot .result) _
+    (new-place (cell found) (self found .slots) (found .slot-of .result) (found .slot-of .ensures) past ∙ sym (new .new-slot .ensures))
     (slot-is ∙ sym (empty .empty-slot .ensures))
     (ap full (empty .empty-slot .ensures) ∙ empty-room)
     (inside found (empty .before .if5 .taken))
@@ -162,11 +163,11 @@ refused-requires-4 c κs = search needs
 
 returns-6 : tie.Need-returns-6
 returns-6 c =
-    let free = c .before .before in
-    let found = free .before .before in
-    let past = outside found (free .before .if3 .left) in
+    let new = c .before .before in
+    let found = new .before .before in
+    let past = outside found (new .before .if3 .left) in
     let slot-is = no-slot (cell found) (self found .slots) (found .slot-of .result) (found .slot-of .ensures) past in
-    let place-is = free-place (cell found) (self found .slots) (found .slot-of .result) (found .slot-of .ensures) past ∙ sym (free .free-slot .ensures) in
+    let place-is = new-place (cell found) (self found .slots) (found .slot-of .result) (found .slot-of .ensures) past ∙ sym (new .new-slot .ensures) in
     c .refused4 .ensures
     ∙ bad-slot (self found) (cell found) (reading found) (good-cell (found .before .before .before .before)) (good-reading found) 44 (λ e. omega arith)
     (slot-none (cell found) (self found .slots) (ap full slot-is ∙ empty-room) (rw place-is (outside found (c .before .if5 .left))))
@@ -190,7 +191,7 @@ add-spec =
     with-reading-requires
     with-slot-requires
     returns-4
-    free-slot-requires
+    new-slot-requires
     empty-slot-requires
     with-reading-requires-2
     with-slot-requires-2

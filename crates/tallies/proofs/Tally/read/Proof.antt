@@ -1,7 +1,7 @@
 -- `read` meets its contract: where the cell has no slot an empty one is read. Assumes nothing.
 use borrow.Author.Needs.{needs}
 use mathlib.Core.Path.{_≡_, sym, _∙_}
-use Prim.Native.Nat.{_≤_, _<_}
+use Prim.Native.Nat.{_≤_}
 use native.Mathlib.Omega.{arith}
 use lib.ListN.{length, length-map}
 use Rattle.tallies.specs.Tallies.{namedRefusal}
@@ -43,10 +43,9 @@ returns-2 c =
     let found = c .before .before .before in
     let good = found .before .before in
     let start = good .before .before .before in
-    let place : found .slot-of .result < length (start .args .self .slots) = omega (arith, all start, c .before .before .if2 .taken) in
     c .read-as .ensures
     ∙ read-done (start .args .self) (start .args .cell) (refusal-is (good .before) ∙ good .if1 .left) _
-    (own-slot (start .args .cell) (start .args .self .slots) (found .slot-of .result) (found .slot-of .ensures) place)
+    (own-slot (start .args .cell) (start .args .self .slots) (found .slot-of .result) (found .slot-of .ensures))
 
 empty-slot-requires : tie.Need-empty-slot-requires
 empty-slot-requires c κs = search needs

@@ -1,4 +1,4 @@
--- What the library reads of the cell with these numbers is written as it tells. Assumes nothing.
+-- What the library reads of the cell of the loop is written as it tells. Assumes nothing.
 use borrow.Author.Needs.{needs}
 use mathlib.Core.Path.{ap, _∙_}
 use mir.Facts.{toZ-ofZ}
@@ -6,8 +6,8 @@ use Rattle.tallies.specs.declared.ReadTally.{ReadTally}
 use Rattle.tallies.specs.declared.SumsAnswer.{SumsAnswer}
 use Rattle.tallies.specs.Tallies.{sums-told}
 use Rattle.c_answers.specs.Answers.{sumsAfter}
-use Rattle.laea_c.proofs.power.laea1_tally_read.Statement.{statement}
-use Rattle.laea_c.proofs.power.laea1_tally_read.Tie as tie
+use Rattle.laea_c.proofs.power.laea2_tally_read.Statement.{statement}
+use Rattle.laea_c.proofs.power.laea2_tally_read.Tie as tie
 
 read-requires : tie.Need-read-requires
 read-requires c κs = search needs
@@ -27,5 +27,5 @@ returns c =
       out-is = c .answer-sums .ensures .1 ∙ ap (λ (a : SumsAnswer). sumsAfter a out) same;
     }
 
-pub laea1-tally-read-spec : {M : Type 1} → statement M
-laea1-tally-read-spec = tie.close (tie.spec read-requires answer-sums-requires returns)
+pub laea2-tally-read-spec : {M : Type 1} → statement M
+laea2-tally-read-spec = tie.close (tie.spec read-requires answer-sums-requires returns)
