@@ -86,7 +86,9 @@
  *     a code, its length; the tally) overlaps nothing else that the call is given. The two lists that a
  *     call only reads may be one.
  *
- * Threads. Any number of threads may call at once, each with its own places to write.
+ * Threads. Any number of threads may call at once, each with its own places to write. A call on a tally
+ * takes it and puts the next one in its place: two calls on one tally, of one loop or of both, must not
+ * run at once, and a lock is the caller's.
  *
  * Stack. A call takes less than 32 KB of the caller's stack, one on a tally less than 96 KB.
  *
@@ -100,7 +102,8 @@
  * Versions. LAEA_VERSION is this header's, laea_version() the archive's. The functions' names in the
  * archive hold a number: that of the set's layout where a function takes a set (laea1_forward), that of
  * the tally's where it makes or takes a tally (laea2_tally_read), and 1 elsewhere. A program that was
- * compiled against a header with another layout, and calls such a function, does not link.
+ * compiled against a header with another layout, and calls such a function, does not link. No call can
+ * see by which layout the bytes of a stored tally were written: keep the number with them.
  */
 #ifndef LAEA_H
 #define LAEA_H
@@ -342,7 +345,8 @@ uint8_t laea_read_code(const char *text, size_t text_length, int64_t out[3]);
  * whose side is not one of the three. A loop number has 64 bits, so that none is cut down to 1 or 2:
  * 257 and -1 are refused.
  *
- * A tally has 12,296 bytes and may be copied and stored. Every field is a number of which every bit
+ * A tally has 12,296 bytes and may be copied and stored, for programs with the same number in the
+ * functions' names; under another number its bytes are other cells. Every field is a number of which every bit
  * pattern is a value, so that a tally whose bytes were damaged is answered too, without undefined
  * behaviour. What is said of sums, counts and slots holds of tallies that these calls gave.
  *

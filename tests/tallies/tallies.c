@@ -150,11 +150,7 @@ static uint8_t add_refusal(const struct entry *cell, double milliwatts)
         return 43;
     if (is_held(cell))
         return 0;
-    int own = held(cell->loop_number), other = held(3 - cell->loop_number);
-    int granted = gets_new_slot(own, other);
-
-    asked[own][other][!granted]++;
-    return granted ? 0 : 44;
+    return gets_new_slot(held(cell->loop_number), held(3 - cell->loop_number)) ? 0 : 44;
 }
 
 static double power(void)
@@ -177,6 +173,9 @@ static uint8_t add(struct entry *cell, double milliwatts, int overloaded)
     uint8_t expected = add_refusal(cell, milliwatts), given;
     laea_tally before = tally;
 
+    if (expected == 44 || (expected == 0 && !is_held(cell)))
+        asked[held(cell->loop_number)][held(3 - cell->loop_number)][expected == 44]++;
+
     if (overloaded)
         given = laea_tally_add_overload(&tally, cell->loop_number, cell->east, cell->north, milliwatts);
     else
@@ -197,15 +196,16 @@ static uint8_t add(struct entry *cell, double milliwatts, int overloaded)
 
 static void clear(struct entry *cell)
 {
+    laea_tally before = tally;
     uint8_t given = laea_tally_clear(&tally, cell->loop_number, cell->east, cell->north);
 
     compared++;
     same(given, named_refusal(cell), "the number of a clear");
     answered[given]++;
-    if (given == 0) {
-        cell->sum = 0;
-        cell->count = cell->overloads = 0;
-    }
+    if (given != 0)
+        same(memcmp(&before, &tally, sizeof tally) != 0, 0, "whether a refused clear changes the tally");
+    else
+        cell->sum = cell->count = cell->overloads = 0;
 }
 
 static void read_back(const struct entry *cell)

@@ -63,7 +63,8 @@ pub struct CellSums {
 ///
 /// A cell of one loop is not a cell of the other: each call takes a loop number and is about the cells
 /// of that loop. What a loop reads of its cells depends on its own accepted calls alone, in their
-/// order. A number other than 1 or 2 is refused with [`Refusal::BadLoop`] before anything else is
+/// order; whether it is refused with [`Refusal::NoNewSlot`] depends on those and on how many slots the
+/// other holds. A number other than 1 or 2 is refused with [`Refusal::BadLoop`] before anything else is
 /// tested.
 ///
 /// ```
@@ -459,9 +460,13 @@ mod tests {
                 assert_eq!(tally.add(other, cell(left), one), Err(Refusal::NoNewSlot));
                 // A cell that has a slot needs no new one.
                 assert_eq!(tally.add(other, cell(0), one), Ok(()));
-                if first == SURE_SLOTS + SHARED_SLOTS {
-                    assert_eq!(tally.add(own, cell(first), one), Err(Refusal::NoNewSlot));
-                }
+                // The first loop is still sure of its own.
+                let sure = if first < SURE_SLOTS {
+                    Ok(())
+                } else {
+                    Err(Refusal::NoNewSlot)
+                };
+                assert_eq!(tally.add(own, cell(first), one), sure);
             }
         }
     }

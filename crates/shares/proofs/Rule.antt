@@ -9,6 +9,11 @@ use borrow.Author.Tests.{lt-ltb, le-ltb, ltb-true, ltb-false}
 use Rattle.integers.proofs.Greatest.{not-both}
 use Rattle.shares.specs.Shares.{sure-slots, shared-slots, beyond, granted}
 
+-- one of two tests passes where the second does
+pub second-passes : (t : Bool) → (t || true) ≡ true
+second-passes true = refl
+second-passes false = refl
+
 module _ (held : ℕ → ℕ) where
   pub beyond-is : beyond held ≡ (held 1 - sure-slots) + (held 2 - sure-slots)
   unfolding beyond
@@ -52,15 +57,11 @@ module _ (held : ℕ → ℕ) where
     unfolding granted beyond
     granted-same other own one two = rw (own, one, two)
 
-    -- the loop gets a slot still where less is held beyond
+    -- the loop gets a slot still where no more is held beyond
     pub granted-fewer : (other : ℕ → ℕ) → held loop ≡ other loop → beyond other ≤ beyond held → granted held loop ≡ true → granted other loop ≡ true
     unfolding granted
     granted-fewer other own fewer g = at (granted-by g)
       where
-        second : (t : Bool) → (t || true) ≡ true
-        second true = refl
-        second false = refl
-
         at : (held loop < sure-slots) ⊎ (beyond held < shared-slots) → (ltb (other loop) sure-slots || ltb (beyond other) shared-slots) ≡ true
         at (inl h) = rw (lt-ltb (other loop) sure-slots (omega (arith, own)))
-        at (inr h) = rw (lt-ltb (beyond other) shared-slots (omega arith)) (second (ltb (other loop) sure-slots))
+        at (inr h) = rw (lt-ltb (beyond other) shared-slots (omega arith)) (second-passes (ltb (other loop) sure-slots))

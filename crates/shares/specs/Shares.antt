@@ -29,7 +29,7 @@ heldIn slots loop = passing (ofLoop loop) slots
 abbrev pub sure-slots : ℕ
 sure-slots = 96
 
--- what is left of the 256
+-- "fewer than 64", which is what is left of the 256 beyond 96 for each
 abbrev pub shared-slots : ℕ
 shared-slots = 64
 

@@ -5,7 +5,7 @@ use slots::free_slot;
 ghost use mathlib.Core.Path.{_≡_};
 ghost use mathlib.Core.Bool.{cond};
 ghost use Prim.Native.Nat.{_-_};
-ghost use Rattle.shares.specs.Shares.{ofLoop, heldIn, granted, newSlot};
+ghost use Rattle.shares.specs.Shares.{ofLoop, heldIn, sure-slots, granted, newSlot};
 
 // How many slots each loop is sure of.
 pub const SURE_SLOTS: u64 = 96;
@@ -40,7 +40,7 @@ fn held_by(slots: [Slot; 256], loop_number: u64) -> u64
 
 // How many of the slots that a loop holds are beyond those it is sure of.
 fn beyond_sure(held: u64) -> u64
-    ensures { λ r. ⌜ r ≡ held - 96 ⌝ }
+    ensures { λ r. ⌜ r ≡ held - sure-slots ⌝ }
 {
     if held < SURE_SLOTS {
         return 0;

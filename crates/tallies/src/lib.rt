@@ -134,9 +134,9 @@ impl Tally {
     pub fn add(self, cell: LoopCell, reading: Reading) -> NextTally
         ensures { λ r. ⌜ r ≡ added self cell reading ⌝ }
     {
-        let bad_cell = named_refusal(self.side, cell);
-        if bad_cell != 0 {
-            return refused(self, bad_cell);
+        let bad_name = named_refusal(self.side, cell);
+        if bad_name != 0 {
+            return refused(self, bad_name);
         }
         let bad_reading = reading_refusal(reading);
         if bad_reading != 0 {
@@ -162,9 +162,9 @@ impl Tally {
     pub fn clear(self, cell: LoopCell) -> NextTally
         ensures { λ r. ⌜ r ≡ cleared self cell ⌝ }
     {
-        let bad_cell = named_refusal(self.side, cell);
-        if bad_cell != 0 {
-            return refused(self, bad_cell);
+        let bad_name = named_refusal(self.side, cell);
+        if bad_name != 0 {
+            return refused(self, bad_name);
         }
         let slots = self.slots;
         let own = slot_of(slots, cell);
@@ -181,11 +181,11 @@ impl Tally {
     pub fn read(self, cell: LoopCell) -> ReadTally
         ensures { λ r. ⌜ r ≡ readFrom self cell ⌝ }
     {
-        let bad_cell = named_refusal(self.side, cell);
-        if bad_cell != 0 {
+        let bad_name = named_refusal(self.side, cell);
+        if bad_name != 0 {
             return ReadTally {
                 tally: self,
-                answer: SumsAnswer::Refused(bad_cell),
+                answer: SumsAnswer::Refused(bad_name),
             };
         }
         let slots = self.slots;

@@ -1,5 +1,5 @@
 -- A loop's accepted calls, made again on a tally of their own, are all accepted: the readings of its cells and their list are the same at each of them,
--- and of the other loop no slot is held, so that less is held beyond 96. Assumes nothing.
+-- and of the other loop no slot is held, so that no more is held beyond 96. Assumes nothing.
 use mathlib.Core.Path.{_≡_, refl, sym, ap, subst, _∙_}
 use mathlib.Core.Bool.{Bool, true, false, _||_, not}
 use mathlib.Core.List.{List, [], _∷_}
@@ -60,7 +60,7 @@ module _ (side : ℤ) (loop : ℕ) where
   }
 
   module _ {tally alone : Tally} (b : Beside tally alone) where
-    -- less is held beyond 96 where the loop is alone
+    -- no more is held beyond 96 where the loop is alone
     fewer : isLoop loop ≡ true → beyond (sizes (b .alone-cells)) ≤ beyond (sizes (b .cells))
     fewer ok = at (one-or-two loop ok)
       where
@@ -145,4 +145,6 @@ module _ (side : ℤ) (loop : ℕ) where
       at false e rest = rw e (rest (after tally call) alone (passed-over b call e))
 
 pub loop-alone : LoopAlone
-loop-alone side loop calls = two-histories side loop calls _ (same-accepted side loop calls (emptyTally side) (emptyTally side) (begun side loop))
+loop-alone side loop calls =
+    let again = same-accepted side loop calls (emptyTally side) (emptyTally side) (begun side loop) in
+    (sym again, two-histories side loop calls _ again)

@@ -27,7 +27,7 @@ use Rattle.shares.specs.Shares.{placeOf}
 use Rattle.tallies.specs.Tallies.{sideRefusal, isLoop, namedRefusal, slotRefusal, addRefusal}
 use Rattle.tallies.specs.Tallies.{tally-told, sums-told, next, made, added, cleared, sumsIn, readFrom}
 use Rattle.tally_laws.specs.Histories.{Call, adding, clearing, reading, cellIn, answerOf, changing, numberOf, after}
-use Rattle.tally_laws.specs.Theorems.{OtherLoopsRefused, OthersRefused, RefusedUnchanged, CellDecides}
+use Rattle.tally_laws.specs.Theorems.{OtherLoopsRefused, OtherCellsRefused, RefusedUnchanged, CellDecides}
 use Rattle.tally_laws.specs.Theorems.{MadeNumbers, AddNumbers, ClearNumbers, ReadNumbers}
 
 -- ---- the number
@@ -55,7 +55,7 @@ number-is tally (clearing cell) = done-told (namedRefusal (tally .side) cell)
 number-is tally (reading cell) =
     told (λ (a : SumsAnswer). sums-told a .refusal) Unread (sumsIn (slotOf cell (tally .slots))) refl (λ n. refl) (namedRefusal (tally .side) cell)
 
--- of making and of calls that change the tally the number decides the answer
+-- the number of an add decides its answer
 pub answer-is : (tally : Tally) (cell : LoopCell) (r : Reading) → answerOf tally (adding cell r) ≡ changing (answered Refused (numberOf tally (adding cell r)) Done)
 unfolding added
 answer-is tally cell r = ap (λ (n : ℕ). changing (answered Refused n Done)) (sym (done-told (addRefusal tally cell r)))
@@ -135,9 +135,9 @@ numbers-refused side east north some = the-other (g .one)
     the-other (inl e) = absurd (some e)
     the-other (inr (inl e)) = e
 
-pub others-refused : OthersRefused
+pub other-cells-refused : OtherCellsRefused
 unfolding namedRefusal
-others-refused tally call good some =
+other-cells-refused tally call good some =
     refused-by-name tally call out-of-limits (λ z. omega arith)
     (rw good (numbers-refused (tally .side) (cellIn call .east) (cellIn call .north) some))
 

@@ -12,7 +12,7 @@ use lib.IntN.{ℤ}
 use lib.ListN.{length}
 use borrow.Author.Tests.{eqb-true}
 use Rattle.integers.proofs.Greatest.{both}
-use Rattle.units.specs.Refusals.{full-cell, no-new-slot, unless, firstOf}
+use Rattle.units.specs.Refusals.{full-cell, no-new-slot, unless, firstOf, OneOf}
 use Rattle.units.specs.Answers.{answered}
 use Rattle.readings.specs.declared.Reading.{Reading}
 use Rattle.readings.specs.Readings.{readingRefusal}
@@ -22,9 +22,10 @@ use Rattle.shares.specs.Shares.{heldIn, granted}
 use Rattle.shares.proofs.Rule.{granted-same}
 use Rattle.tallies.specs.declared.Tally.{Tally}
 use Rattle.tallies.specs.declared.TallyAnswer.the-variants.{Done, Refused}
+use Rattle.tallies.specs.declared.SumsAnswer.{SumsAnswer}
 use Rattle.tallies.specs.declared.SumsAnswer.the-variants.{Sums, Refused as Unread}
-use Rattle.tallies.specs.Tallies.{isLoop, namedRefusal, emptyTally, cleared, readFrom}
-use Rattle.tally_laws.specs.Histories.{Call, adding, clearing, reading, loopIn, changing, telling, answerOf, numberOf, afterAll, Answered, history}
+use Rattle.tallies.specs.Tallies.{isLoop, namedRefusal, emptyTally, sums-told, cleared, readFrom}
+use Rattle.tally_laws.specs.Histories.{Call, adding, clearing, reading, loopIn, changing, telling, answerOf, numberIn, numberOf, afterAll, Answered, history}
 use Rattle.tally_laws.specs.Histories.{folded, withCall, readingsOf, sumOf, countOf, overloadsOf, cellsWith, cellsOf, heldBy, acceptedOf}
 use Rattle.tally_laws.specs.Theorems.{otherLoop, TwoHistories}
 use Rattle.tally_laws.proofs.Loops.{one-or-two}
@@ -100,6 +101,18 @@ but-for-44 zero zero true false true true f s = refl
 but-for-44 zero zero true false false false f s = refl
 but-for-44 zero zero true false true false f s = absurd (s refl)
 but-for-44 zero zero true false false true f s = absurd (f refl)
+
+-- and one that is answered 44 is answered 0 or 44 whatever its last test
+or-accepted : (a b : ℕ) (room some one two : Bool) →
+    let chain : Bool → ℕ = λ new. firstOf a (firstOf b (unless room full-cell (unless (some || new) no-new-slot 0))) in
+    chain one ≡ no-new-slot →
+    OneOf (0 ∷ no-new-slot ∷ []) (chain two)
+or-accepted (suc a) b room some one two e = inr (inl e)
+or-accepted zero (suc b) room some one two e = inr (inl e)
+or-accepted zero zero false some one two e = inr (inl e)
+or-accepted zero zero true true one two e = inl refl
+or-accepted zero zero true false one true e = inl refl
+or-accepted zero zero true false one false e = inr (inl refl)
 
 module _ {side : ℤ} {tally : Tally} {rs : LoopCell → List Reading} {cells : ℕ → List LoopCell} (k : Kept side tally rs cells) where
   read-decided : (cell : LoopCell) →
@@ -180,6 +193,16 @@ module _ (side : ℤ) (loop : ℕ) (one two : List Call)
     same-answers (clearing cell) own f s = clear-decided (from-start side one) cell ∙ sym (clear-decided (from-start side two) cell)
     same-answers (reading cell) own f s = ap telling (same-reads cell own)
 
+    same-refused : (call : Call) → loopIn call ≡ loop → numberOf tally-one call ≡ no-new-slot → OneOf (0 ∷ no-new-slot ∷ []) (numberOf tally-two call)
+    same-refused (adding cell r) own e =
+        let n : ℕ = length (readingsOf cell past-one) in
+        rw (second-told cell r own)
+        (or-accepted (namedRefusal side cell) (readingRefusal r) (not (leb most-readings n)) (ltb 0 n) (granted (heldBy past-one) (cell .«loop_number»))
+        (granted (heldBy past-two) (cell .«loop_number»)) (sym (add-told (from-start side one) cell r) ∙ e))
+    same-refused (clearing cell) own e =
+        inr (inl (sym (ap numberIn (clear-decided (from-start side one) cell ∙ sym (clear-decided (from-start side two) cell))) ∙ e))
+    same-refused (reading cell) own e = inr (inl (sym (ap (λ (a : SumsAnswer). sums-told a .refusal) (same-reads cell own)) ∙ e))
+
     module _ (equal : heldIn (tally-one .slots) (otherLoop loop) ≡ heldIn (tally-two .slots) (otherLoop loop)) where
       -- by the lists
       same-held : (other : ℕ) → (other ≡ 0 → ⊥) → heldIn (tally-one .slots) other ≡ heldIn (tally-two .slots) other → heldBy past-one other ≡ heldBy past-two other
@@ -216,5 +239,6 @@ pub two-histories : TwoHistories
 two-histories side loop one two same = record {
   reads = same-reads side loop one two same;
   answers = same-answers side loop one two same;
+  refused = same-refused side loop one two same;
   answers-all = same-answers-all side loop one two same;
 }

@@ -29,8 +29,8 @@ OtherLoopsRefused = (tally : Tally) (call : Call) → isLoop (loopIn call) ≡ f
 
 -- Of a loop's calls those for a side or a cell that the cell rule does not give are refused 3, whatever the tally, and change nothing. So the rule of
 -- histories leaves out no cell that can have a reading.
-abbrev pub OthersRefused : Type 0
-OthersRefused =
+abbrev pub OtherCellsRefused : Type 0
+OtherCellsRefused =
     (tally : Tally) (call : Call) →
     isLoop (loopIn call) ≡ true →
     (numbersRefusal (tally .side) (cellIn call .east) (cellIn call .north) ≡ 0 → ⊥) →
@@ -145,7 +145,13 @@ pub record AlikeTo (loop : ℕ) (one two : Tally) : Type 0 where
       (numberOf one call ≡ no-new-slot → ⊥) →
       (numberOf two call ≡ no-new-slot → ⊥) →
       answerOf one call ≡ answerOf two call
-  -- and always the same, 44 too, where the other loop holds as many slots in both
+  -- where the one answers 44, the other accepts the call or answers 44 too
+  pub refused :
+      (call : Call) →
+      loopIn call ≡ loop →
+      numberOf one call ≡ no-new-slot →
+      OneOf (0 ∷ no-new-slot ∷ []) (numberOf two call)
+  -- and the answer is always the same, 44 too, where the other loop holds as many slots in both
   pub answers-all :
       heldIn (one .slots) (otherLoop loop) ≡ heldIn (two .slots) (otherLoop loop) →
       (call : Call) →
@@ -160,11 +166,12 @@ TwoHistories =
     acceptedOf loop (history (emptyTally side) one) ≡ acceptedOf loop (history (emptyTally side) two) →
     AlikeTo loop (afterAll (emptyTally side) one) (afterAll (emptyTally side) two)
 
--- So a loop that made its accepted calls on a tally of its own, with no other loop on it, could not tell the two tallies apart.
+-- A loop's accepted calls, made on a tally with no other loop on it, are all accepted there, and the two tallies are alike to the loop.
 abbrev pub LoopAlone : Type 0
 LoopAlone =
     (side : ℤ) (loop : ℕ) (calls : List Call) →
-    AlikeTo loop (afterAll (emptyTally side) calls) (afterAll (emptyTally side) (acceptedOf loop (history (emptyTally side) calls)))
+    let own : List Call = acceptedOf loop (history (emptyTally side) calls) in
+    (acceptedOf loop (history (emptyTally side) own) ≡ own) × AlikeTo loop (afterAll (emptyTally side) calls) (afterAll (emptyTally side) own)
 
 -- ---- which numbers each call can give, whatever the tally
 

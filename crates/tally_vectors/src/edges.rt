@@ -9,7 +9,7 @@ use readings::Reading;
 use tallies::Tally;
 use units::refusals::NO_NEW_SLOT;
 
-// A reading for each of the loop's cells 0 to `count` in a row. Were one of them refused, the loop would get one more slot than the next row expects.
+// A reading for each of the first `count` cells of a row. Were one of them refused, a later row would be accepted that expects to be refused.
 fn filled(first: Tally, loop_number: u64, north: i64, count: u64) -> Tally {
     let mut tally = first;
     let mut k: u64 = 0;

@@ -97,7 +97,7 @@ pub(crate) fn out_of_limits() {
     look(tally, cell_at(1, 0, 5_001));
 }
 
-// The calls of loops that there are not, on a tally of this side and with a power that is not finite.
+// The calls of a loop that there is not, on a tally of this side and with a power that is not finite.
 fn bad_loop(side: i64, right: u8, loop_number: u64) {
     let tally = make(side, right);
     let cell = cell_at(loop_number, 5_001, 0);

@@ -1,7 +1,6 @@
 -- The witness of a full cell, with no million computed. As long as a cell has fewer than 10⁶ readings, and no other cell has one, a reading of
 -- 1,000 mW is accepted, and adds 10⁹ nW and one to the count; so it goes for any number of them up to 10⁶. Assumes nothing.
 use mathlib.Core.Path.{_≡_, refl, subst, _∙_}
-use mathlib.Core.Bool.{Bool, true, false, _||_}
 use mathlib.Core.List.{List, []}
 use Prim.Native.Nat.{ℕ, zero, suc, _+_, _*_, _≤_, _<_}
 use native.Mathlib.Omega.{arith}
@@ -20,7 +19,7 @@ use Rattle.slots.specs.declared.LoopCell.{LoopCell}
 use Rattle.tallies.specs.declared.Tally.{Tally}
 use Rattle.tallies.specs.declared.SumsAnswer.the-variants.{Sums}
 use Rattle.slots.specs.Slots.{most-readings}
-use Rattle.shares.proofs.Rule.{granted-sure}
+use Rattle.shares.proofs.Rule.{second-passes, granted-sure}
 use Rattle.tallies.specs.Tallies.{isLoop, namedRefusal, readFrom}
 use Rattle.tally_laws.specs.Histories.{Call, adding, numberOf, after, afterAll, sumOf, countOf, overloadsOf, without, withCall, cellsWith}
 use Rattle.tally_witnesses.specs.Witnesses.{cellAt, watt, fresh, FullWitness}
@@ -62,11 +61,6 @@ empty = record {
 cell-good : namedRefusal (pos 100_000) cell ≡ 0
 unfolding accepted-side same within numbersRefusal numbered namedRefusal isLoop
 cell-good = refl
-
--- one of two tests passes where the second does
-second-passes : (t : Bool) → (t || true) ≡ true
-second-passes true = refl
-second-passes false = refl
 
 watt-good : powerRefusal watt ≡ 0
 watt-good = accepted-witnesses .1 .0

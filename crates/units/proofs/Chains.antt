@@ -46,7 +46,7 @@ listed (x ∷ xs) n t = at (or-yes (eqb n x) (among xs n) t) (listed xs n)
     at (inl h) later = inl (eqb→eq n x h)
     at (inr h) later = inr (later h)
 
--- and none but these is among them
+-- and each of them is among them by the test
 pub is-among : (xs : List ℕ) (n : ℕ) → OneOf xs n → among xs n ≡ true
 is-among [] n i = absurd i
 is-among (x ∷ xs) n (inl e) = rw (eq-eqb n x e)

@@ -2,7 +2,8 @@
 //! their order, alone, its refusal 44 on those and on how many slots the other holds."
 //!
 //! Two tallies get the same calls of one loop and different calls of the other. A call of the first
-//! loop is tried on both and kept where both accept it, so that its accepted calls are the same in both.
+//! loop is tried on both. What a refusal gives is kept, and what an acceptance gives where both accept
+//! the call, so that the loop's accepted calls are the same in both.
 
 use crate::archive::{Tally, TallyResult};
 use crate::random::{inputs, seed, Random};
@@ -46,11 +47,11 @@ fn read(tally: &Tally, of: LoopCell) -> (u8, [u64; 5]) {
 struct Met {
     accepted: u64,
     /// 44 in both, while the other loop held equally many slots in both.
-    none_of_equal: u64,
+    both_44_equal: u64,
     /// 44 in both, while it did not.
-    none_of_unequal: u64,
+    both_44_unequal: u64,
     /// 44 in one alone.
-    none_in_one: u64,
+    one_44: u64,
     /// Another refusal, in both.
     refused: u64,
 }
@@ -58,7 +59,7 @@ struct Met {
 impl Met {
     /// Whether each way was met.
     fn all(&self) -> bool {
-        let of_44 = [self.none_of_equal, self.none_of_unequal, self.none_in_one];
+        let of_44 = [self.both_44_equal, self.both_44_unequal, self.one_44];
         self.accepted > 0 && self.refused > 0 && !of_44.contains(&0)
     }
 }
@@ -115,7 +116,7 @@ impl Pair {
         }
     }
 
-    /// A call of the first loop, tried on both and kept where both accept it.
+    /// A call of the first loop, tried on both; where one alone accepts it, that one stays as it was.
     fn own_call(&mut self, call: Call) {
         let answers = self.tallies.each_ref().map(|tally| answer(tally, call));
         let numbers = answers.map(|answer| answer.refusal);
@@ -128,19 +129,21 @@ impl Pair {
         self.report.answered(numbers[0]);
         let told = || format!("{call:?}: {numbers:?}, the other loop holds {others:?}");
         match numbers {
-            [ACCEPTED, ACCEPTED] => {
-                self.tallies = answers.map(|answer| answer.tally);
-                self.met.accepted += 1;
-            }
-            [NO_SLOT, NO_SLOT] if others[0] == others[1] => self.met.none_of_equal += 1,
-            [NO_SLOT, NO_SLOT] => self.met.none_of_unequal += 1,
+            [ACCEPTED, ACCEPTED] => self.met.accepted += 1,
+            [NO_SLOT, NO_SLOT] if others[0] == others[1] => self.met.both_44_equal += 1,
+            [NO_SLOT, NO_SLOT] => self.met.both_44_unequal += 1,
             [NO_SLOT, ACCEPTED] | [ACCEPTED, NO_SLOT] => {
                 assert_ne!(others[0], others[1], "{}", told());
-                self.met.none_in_one += 1;
+                self.met.one_44 += 1;
             }
             [first, second] => {
                 assert_eq!(first, second, "{}", told());
                 self.met.refused += 1;
+            }
+        }
+        for (tally, answer) in self.tallies.iter_mut().zip(answers) {
+            if answer.refusal != ACCEPTED || numbers == [ACCEPTED; 2] {
+                *tally = answer.tally;
             }
         }
     }
