@@ -161,12 +161,13 @@ module _ (side : ℤ) (loop : ℕ) (one two : List Call)
         ∙ ap (λ (rs : List Reading). answered Unread (namedRefusal side cell) (Sums (sumOf rs) (countOf rs) (overloadsOf rs))) (same-readings cell own)
         ∙ sym (read-decided (from-start side two) cell)
 
-    -- an add is answered by its number, and any other call alike
-    by-number : (call : Call) → loopIn call ≡ loop → numberOf tally-one call ≡ numberOf tally-two call → answerOf tally-one call ≡ answerOf tally-two call
-    by-number (adding cell r) own e =
-        answer-is tally-one cell r ∙ ap (λ (n : ℕ). changing (answered Refused n Done)) e ∙ sym (answer-is tally-two cell r)
-    by-number (clearing cell) own e = clear-decided (from-start side one) cell ∙ sym (clear-decided (from-start side two) cell)
-    by-number (reading cell) own e = ap telling (same-reads cell own)
+    same-clears : (cell : LoopCell) → answerOf tally-one (clearing cell) ≡ answerOf tally-two (clearing cell)
+    same-clears cell = clear-decided (from-start side one) cell ∙ sym (clear-decided (from-start side two) cell)
+
+    -- an add is answered by its number
+    by-number : (cell : LoopCell) (r : Reading) → numberOf tally-one (adding cell r) ≡ numberOf tally-two (adding cell r) →
+        answerOf tally-one (adding cell r) ≡ answerOf tally-two (adding cell r)
+    by-number cell r e = answer-is tally-one cell r ∙ ap (λ (n : ℕ). changing (answered Refused n Done)) e ∙ sym (answer-is tally-two cell r)
 
     -- the second number over the first's readings
     second-told : (cell : LoopCell) (r : Reading) → cell .«loop_number» ≡ loop →
@@ -184,13 +185,13 @@ module _ (side : ℤ) (loop : ℕ) (one two : List Call)
     same-answers (adding cell r) own f s =
         let first = add-told (from-start side one) cell r in
         let second = second-told cell r own in
-        by-number (adding cell r) own
+        by-number cell r
         (first
         ∙ but-for-44 (namedRefusal side cell) (readingRefusal r) (not (leb most-readings (length (readingsOf cell past-one))))
         (ltb 0 (length (readingsOf cell past-one))) (granted (heldBy past-one) (cell .«loop_number»)) (granted (heldBy past-two) (cell .«loop_number»))
         (λ e. f (first ∙ e)) (λ e. s (second ∙ e))
         ∙ sym second)
-    same-answers (clearing cell) own f s = clear-decided (from-start side one) cell ∙ sym (clear-decided (from-start side two) cell)
+    same-answers (clearing cell) own f s = same-clears cell
     same-answers (reading cell) own f s = ap telling (same-reads cell own)
 
     same-refused : (call : Call) → loopIn call ≡ loop → numberOf tally-one call ≡ no-new-slot → OneOf (0 ∷ no-new-slot ∷ []) (numberOf tally-two call)
@@ -199,8 +200,7 @@ module _ (side : ℤ) (loop : ℕ) (one two : List Call)
         rw (second-told cell r own)
         (or-accepted (namedRefusal side cell) (readingRefusal r) (not (leb most-readings n)) (ltb 0 n) (granted (heldBy past-one) (cell .«loop_number»))
         (granted (heldBy past-two) (cell .«loop_number»)) (sym (add-told (from-start side one) cell r) ∙ e))
-    same-refused (clearing cell) own e =
-        inr (inl (sym (ap numberIn (clear-decided (from-start side one) cell ∙ sym (clear-decided (from-start side two) cell))) ∙ e))
+    same-refused (clearing cell) own e = inr (inl (sym (ap numberIn (same-clears cell)) ∙ e))
     same-refused (reading cell) own e = inr (inl (sym (ap (λ (a : SumsAnswer). sums-told a .refusal) (same-reads cell own)) ∙ e))
 
     module _ (equal : heldIn (tally-one .slots) (otherLoop loop) ≡ heldIn (tally-two .slots) (otherLoop loop)) where
@@ -231,8 +231,8 @@ module _ (side : ℤ) (loop : ℕ) (one two : List Call)
               other-loops-refused tally-one (adding cell r) bad .0 ∙ sym (other-loops-refused tally-two (adding cell r) bad .0)
 
       same-answers-all : (call : Call) → loopIn call ≡ loop → answerOf tally-one call ≡ answerOf tally-two call
-      same-answers-all (adding cell r) own = by-number (adding cell r) own (same-numbers cell r own)
-      same-answers-all (clearing cell) own = clear-decided (from-start side one) cell ∙ sym (clear-decided (from-start side two) cell)
+      same-answers-all (adding cell r) own = by-number cell r (same-numbers cell r own)
+      same-answers-all (clearing cell) own = same-clears cell
       same-answers-all (reading cell) own = ap telling (same-reads cell own)
 
 pub two-histories : TwoHistories
