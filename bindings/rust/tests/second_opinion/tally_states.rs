@@ -266,8 +266,8 @@ fn made_tallies() {
 /// Tallies that calls gave, with more cells than slots: every bit after every call.
 #[test]
 fn slots_of_histories() {
-    let seed = seed();
-    let mut run = Run::new("laea2_tally, slots of histories", seed);
+    let (name, seed) = ("laea2_tally, slots of histories", seed());
+    let mut run = Run::new(name, seed);
     let mut random = Random::new(seed);
     let mut asked = Asked::default();
     loop {
