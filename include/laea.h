@@ -115,8 +115,8 @@
 extern "C" {
 #endif
 
-/* 10,000 times the major number, 100 times the minor one, and the patch: 0.7.0. */
-#define LAEA_VERSION 700
+/* 10,000 times the major number, 100 times the minor one, and the patch: 0.8.0. */
+#define LAEA_VERSION 800
 
 /* What a call returns, and what a point's mark is. */
 #define LAEA_OK 0

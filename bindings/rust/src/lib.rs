@@ -72,8 +72,8 @@ pub use tally::{CellSums, Reading, Tally, READINGS_MOST, SHARED_SLOTS, SLOT_COUN
 #[doc = include_str!("../README.md")]
 struct Readme;
 
-/// The version of this crate as one number: 700 is 0.7.0.
-pub const VERSION: u32 = 700;
+/// The version of this crate as one number: 800 is 0.8.0.
+pub const VERSION: u32 = 800;
 
 /// The version of the archive that is linked, as one number like [`VERSION`].
 ///

@@ -20,9 +20,9 @@ use Rattle.tallies.specs.Tallies.{sums-told}
 use Rattle.c_answers.specs.Answers.{countAfter, sumsAfter}
 use Rattle.laea_c.specs.declared.sets.Set.{Set}
 
--- the version 0.7.0: 10,000 times the major number, 100 times the minor one, and the patch
+-- the version 0.8.0: 10,000 times the major number, 100 times the minor one, and the patch
 abbrev pub version : ℕ
-version = 700
+version = 800
 
 -- the parameter set of these fields
 abbrev pub parametersOf : Set → Parameters

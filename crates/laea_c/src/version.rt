@@ -2,8 +2,8 @@
 ghost use mathlib.Core.Path.{_≡_};
 ghost use Rattle.laea_c.specs.Calls.{version};
 
-// 10,000 times the major number, 100 times the minor one, and the patch: 0.7.0.
-const VERSION: u32 = 700;
+// 10,000 times the major number, 100 times the minor one, and the patch: 0.8.0.
+const VERSION: u32 = 800;
 
 // The archive's version.
 #[no_mangle]

@@ -63,14 +63,14 @@ fn beyond(k: usize, lat: f64, lon: f64) {
 
 // −180° and 180° are alike.
 pub(crate) fn limits() {
-    degrees(names::LATITUDE_90, 90.0, LON0, FALSE_EASTING, 7_369_716.13);
+    degrees(names::LATITUDE_90, 90.0, LON0, FALSE_EASTING, 7_369_716.22);
     beyond(names::NEXT_UP, 90.00000000000001, LON0);
     degrees(
         names::LATITUDE_MINUS_90,
         -90.0,
         LON0,
         FALSE_EASTING,
-        -8_828_173.96,
+        -8_828_174.47,
     );
     beyond(names::NEXT_DOWN, -90.00000000000001, LON0);
     degrees(
@@ -78,7 +78,7 @@ pub(crate) fn limits() {
         80.0,
         180.0,
         4_532_329.67,
-        8_390_463.46,
+        8_390_463.61,
     );
     beyond(names::NEXT_UP, 80.0, 180.00000000000003);
     degrees(
@@ -86,7 +86,7 @@ pub(crate) fn limits() {
         80.0,
         -180.0,
         4_532_329.67,
-        8_390_463.46,
+        8_390_463.61,
     );
     beyond(names::NEXT_DOWN, 80.0, -180.00000000000003);
 }

@@ -41,14 +41,14 @@ pub(crate) fn accepted() {
     degrees(
         names::LIST_OF_1,
         1,
-        0xC289_09AF_51EC_151F,
-        0x6059_91D6_2C2E_6BD8,
+        0xC289_09AF_6148_3E15,
+        0x6059_93EA_C857_69ED,
     );
     degrees(
         names::LIST_OF_4096,
         4_096,
-        0x6636_6F1F_12E1_47C6,
-        0x1740_7F69_02E4_BB15,
+        0x6636_709B_3333_333F,
+        0x1769_F8E8_DB32_F3C8,
     );
     metres(
         names::LIST_OF_0,
@@ -59,14 +59,14 @@ pub(crate) fn accepted() {
     metres(
         names::LIST_OF_1,
         1,
-        0xC067_12F0_8462_89F0,
-        0x4321_8E9A_E1FE_9BC8,
+        0xC067_12F0_925D_ADA1,
+        0x4321_90EF_8D39_CAF5,
     );
     metres(
         names::LIST_OF_4096,
         4_096,
-        0x5EC5_6F83_2E64_DEF8,
-        0x134B_3520_9854_D754,
+        0x5EC5_6FC2_FCE0_C0AF,
+        0x1354_F1FC_9632_C6D8,
     );
 }
 

@@ -33,7 +33,7 @@ NearPair p at =
     (natAbs (latitudeMas at .0) ≤ farthest-latitude)
     × (pos least-nearness ≤ℤ nearness p (latitudeMas at) (longitudeMas at))
 
--- The whole numbers of `back` are within 200 mas of those of `at`, in latitude and in longitude gap.
+-- The whole numbers of `back` are within 40 mas of those of `at`, in latitude and in longitude gap.
 abbrev pub PairCloseTo : Parameters → GeodeticPair → GeodeticPair → Type 0
 PairCloseTo p at back =
     CloseTo latitude-bound gap-bound 1 p (latitudeMas at) (longitudeMas at) (Position (latitudeMas back) (longitudeMas back))

@@ -110,6 +110,6 @@ module _ {p : Parameters} {k : Constants} {φ : Geodetic} (lon : ℤ) (g : Given
       from-lon0 lon0 lon lon′ Δ′ i j e =
           ring-from (lon0 ∷ lon ∷ lon′ ∷ Δ′ ∷ i ∷ j ∷ []) (negℤ (pos 1)) e (search quote depth 40 fits 20000) tt
 
-  -- so the longitude gap is at most 53.5
+  -- so the longitude gap is at most 17
   pub longitude-bound : (pos 2 *ℤ (pos (turnGap (a .lon′ -ℤ lon)) *ℤ c k φ (lon -ℤ p .lon0))) ≤ℤ pos (sharp-gap-halves * unit)
   longitude-bound = rw (← (c-natural g)) (pos-≤ℤ (omega (arith, longitude-aim)))

@@ -122,7 +122,7 @@ module _ (p : Parameters) (φ : Geodetic) (lon : ℤ) where
       let there = accepted-answer p φ lon E N (met .forward-is) in
       close-answer g a (inverseOf p E N) (inverse-is E N there (forward-on-plane p φ lon E N (met .forward-is)))
 
--- at most 98 mas, and 53.5
+-- at most 28 mas, and 17
 pub sharp : SharpRoundTrip
 sharp p φ lon = round-trip p φ lon
 
@@ -148,7 +148,7 @@ module _ (l n d l′ n′ d′ : ℕ) (more : l ≤ l′) (some : 0 < d) (ratio 
         longitude-close = weaker-ratio (longitudeGap p φ lon (close .lon′)) (close .longitude-close);
       }
 
--- at most 200 mas, both times
+-- at most 40 mas, both times
 pub demand-3 : Demand3
 unfolding RoundTripAt
 demand-3 p φ lon met =

@@ -1,4 +1,4 @@
--- Back from β to the geodetic latitude: the greatest latitude whose β is not above one that is at most 96 mas from the β of φ is at most 98 mas from φ,
+-- Back from β to the geodetic latitude: the greatest latitude whose β is not above one that is at most 27 mas from the β of φ is at most 28 mas from φ,
 -- because β rises by at least 0.993 for each mas, but for one.
 -- Assumes nothing.
 use mathlib.Core.Path.{_≡_, ap}

@@ -39,4 +39,4 @@ least-cosine = 17_000_000
 
 -- the error of β, in mas: (5 (ER + Ez) + 34) / 24, rounded down
 abbrev pub Eβ : ℕ
-Eβ = 96
+Eβ = 27

@@ -47,19 +47,19 @@ farthest-latitude = 320_400_000
 abbrev pub least-nearness : ℕ
 least-nearness = 1_000_000_000
 
--- "at most 200 milliarcseconds", and "at most 200 milliarcseconds as well"
+-- "at most 200 milliarcseconds", and "at most 200 milliarcseconds as well", with "40 milliarcseconds in place of 200, both times", document 02, g)
 abbrev pub latitude-bound : ℕ
-latitude-bound = 200
+latitude-bound = 40
 
 abbrev pub gap-bound : ℕ
-gap-bound = 200
+gap-bound = 40
 
--- The bounds that the proof gives: 98 mas, and 53.5, in halves.
+-- The bounds that the proof gives: 28 mas, and 17, in halves.
 abbrev pub sharp-latitude-bound : ℕ
-sharp-latitude-bound = 98
+sharp-latitude-bound = 28
 
 abbrev pub sharp-gap-halves : ℕ
-sharp-gap-halves = 107
+sharp-gap-halves = 34
 
 -- ---- demand 3
 

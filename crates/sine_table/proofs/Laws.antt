@@ -15,15 +15,37 @@ use Rattle.units.specs.Units.{unit}
 use Rattle.sine_table.specs.Table.{entry, StrictlyRising}
 use Rattle.sine_table.proofs.Orders.{Order, _≤?_, Holds, pass, nth}
 
+-- The correction between two minutes, T[k]·84,616·f·(1 − f)/(2·10^12), is T[k]·curve·f·(1 − f)/fine: both are an eighth of the paper's.
+abbrev pub curve : ℕ
+curve = 10_577
+
+abbrev pub fine : ℕ
+fine = 250_000_000_000
+
+abbrev pub half-fine : ℕ
+half-fine = 125_000_000_000
+
+-- The square of a chord, from the rise of the sine and the fall of the cosine.
+abbrev pub chord : ℕ → ℕ → ℕ
+chord e d = e * e + d * d
+
+-- How far the correction may be from what the circle asks for.
+abbrev pub arc-error : ℕ
+arc-error = 2_500_000_000_000_000_000
+
 -- What is tested at minute k: s and s′ are the entries of k and k + 1, c and c′ those of 5400 - k and 5399 - k.
 abbrev orders : ℕ → ℕ → ℕ → ℕ → List Order
 orders s s′ c c′ =
     (suc s ≤? s′)
-    ∷ (s′ ≤? s + 290_889)
-    ∷ (290_000 * c ≤? unit * (s′ - s) + 290_000 * 600_000)
-    ∷ ((s′ - s) * (s′ - s) + (c - c′) * (c - c′) ≤? 84_620_000_000)
-    ∷ (2 * (s * s + c * c) ≤? 2 * (unit * unit) + 3 * unit)
-    ∷ (2 * (unit * unit) ≤? 2 * (s * s + c * c) + 3 * unit)
+    ∷ (fine * (s′ - s) + curve * s ≤? fine * 295_000)
+    ∷ (fine * 290_000 * c + unit * (curve * s) ≤? unit * (fine * (s′ - s)) + fine * 290_000 * 600_000)
+    ∷ (2 * (curve * s) ≤? 2 * (fine * (s′ - s)) + fine)
+    ∷ (curve * (s * s + c * c′) ≤? half-fine * chord (s′ - s) (c - c′) + arc-error)
+    ∷ (half-fine * chord (s′ - s) (c - c′) ≤? curve * (s * s + c * c′) + arc-error)
+    ∷ (curve * (s * s′ + c′ * c′) ≤? half-fine * chord (s′ - s) (c - c′) + arc-error)
+    ∷ (half-fine * chord (s′ - s) (c - c′) ≤? curve * (s * s′ + c′ * c′) + arc-error)
+    ∷ (5 * (s * s + c * c) ≤? 5 * (unit * unit) + 7 * unit)
+    ∷ (5 * (unit * unit) ≤? 5 * (s * s + c * c) + 7 * unit)
     ∷ []
 
 -- The test of minute k, where j is 5399 - k.
@@ -62,21 +84,33 @@ at k h i =
 pub rises : StrictlyRising
 rises k h = at k h 0
 
--- The rise over a minute is at most 290,889.
-pub step : (k : ℕ) → k < 5400 → entry (suc k) ≤ entry k + 290_889
+-- The rise over a minute and the correction's part of it: at the start of a minute the sine rises by at most 295,000 to the minute.
+pub step : (k : ℕ) → k < 5400 → fine * (entry (suc k) - entry k) + curve * entry k ≤ fine * 295_000
 step k h = at k h 1
 
--- The rise over a minute is at least 0.00029 times the cosine, less 174; here all of it is multiplied by U.
-pub slope : (k : ℕ) → k < 5400 → 290_000 * entry (5400 - k) ≤ unit * (entry (suc k) - entry k) + 290_000 * 600_000
-slope k h = at k h 2
-
--- The square of the chord over a minute, from the rise of the sine and the fall of the cosine.
-pub bend :
+-- At the end of a minute the sine rises by at least 0.00029 times the cosine, less 174, to the minute; here all of it is multiplied by U.
+pub slope :
     (k : ℕ) →
     k < 5400 →
-    (entry (suc k) - entry k) * (entry (suc k) - entry k) + (entry (5400 - k) - entry (5399 - k)) * (entry (5400 - k) - entry (5399 - k))
-    ≤ 84_620_000_000
-bend k h = at k h 3
+    fine * 290_000 * entry (5400 - k) + unit * (curve * entry k) ≤ unit * (fine * (entry (suc k) - entry k)) + fine * 290_000 * 600_000
+slope k h = at k h 2
+
+-- The correction bends the sine back by less than a half beyond the next entry.
+pub bent-back : (k : ℕ) → k < 5400 → 2 * (curve * entry k) ≤ 2 * (fine * (entry (suc k) - entry k)) + fine
+bent-back k h = at k h 3
+
+-- The correction makes up for the distance of a chord from its arc. The chord goes from sine s and cosine c to s′ and c′, over e and d.
+pub record Arc (s s′ e c c′ d : ℕ) : Type 0 where
+  pub first-high : curve * (s * s + c * c′) ≤ half-fine * chord e d + arc-error
+  pub first-low : half-fine * chord e d ≤ curve * (s * s + c * c′) + arc-error
+  pub last-high : curve * (s * s′ + c′ * c′) ≤ half-fine * chord e d + arc-error
+  pub last-low : half-fine * chord e d ≤ curve * (s * s′ + c′ * c′) + arc-error
+
+pub arc :
+    (k : ℕ) →
+    k < 5400 →
+    Arc (entry k) (entry (suc k)) (entry (suc k) - entry k) (entry (5400 - k)) (entry (5399 - k)) (entry (5400 - k) - entry (5399 - k))
+arc k h = record { first-high = at k h 4; first-low = at k h 5; last-high = at k h 6; last-low = at k h 7 }
 
 -- Single entries, computed.
 pub entry-zero : entry 0 ≡ 0
@@ -113,8 +147,8 @@ entry-last = refl
 
 -- The sine s and the cosine c of one angle lie on the circle of radius U, but for their rounding.
 pub record OnCircle (s c : ℕ) : Type 0 where
-  pub not-outside : 2 * (s * s + c * c) ≤ 2 * (unit * unit) + 3 * unit
-  pub not-inside : 2 * (unit * unit) ≤ 2 * (s * s + c * c) + 3 * unit
+  pub not-outside : 5 * (s * s + c * c) ≤ 5 * (unit * unit) + 7 * unit
+  pub not-inside : 5 * (unit * unit) ≤ 5 * (s * s + c * c) + 7 * unit
 
 -- The last minute has no next one, so `at` does not reach it.
 circle-last : OnCircle (entry 5400) (entry 0)
@@ -122,7 +156,7 @@ circle-last = rw (entry-last, entry-zero) (record { not-outside = lit≤ tt; not
 
 pub circle : (k : ℕ) → k ≤ 5400 → OnCircle (entry k) (entry (5400 - k))
 circle k h =
-    elim (eq-or-lt-of-le h) [ inl e ↦ rw e circle-last | inr l ↦ record { not-outside = at k l 4; not-inside = at k l 5 } ]
+    elim (eq-or-lt-of-le h) [ inl e ↦ rw e circle-last | inr l ↦ record { not-outside = at k l 8; not-inside = at k l 9 } ]
 
 rises-by : (d i : ℕ) → d + i ≤ 5400 → entry i ≤ entry (d + i)
 rises-by zero i h = rw zero-add (le-refl (entry i))

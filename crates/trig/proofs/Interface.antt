@@ -14,7 +14,7 @@ use Rattle.proof_kit.proofs.Order.{pos-≤ℤ, le-by}
 use Rattle.proof_kit.proofs.Size.{within, abs-neg, abs-via, abs-sub-sym}
 use Rattle.units.specs.Units.{unit, right-angle, half-turn}
 use Rattle.sine_table.proofs.Laws.{entry-59, entry-300}
-use Rattle.trig.specs.Sine.{first-quarter, sine, cosine}
+use Rattle.trig.specs.Sine.{first-quarter, sine, cosine, NeverFalls}
 use Rattle.trig.proofs.Quarter.{quarter-mono, quarter-step, quarter-slope, quarter-circle, quarter-at-most, quarter-minute}
 use Rattle.trig.proofs.Quarter.{quarter-zero, quarter-right}
 use Rattle.trig.proofs.Symmetry.{sine-first, cosine-first, sine-upper}
@@ -110,7 +110,7 @@ cosine-apart x y =
 
 -- A: sine² + cosine² differs from U² by at most A·U
 abbrev pub A : ℕ
-A = 25
+A = 3
 
 radius-gap : ℤ → ℕ
 radius-gap t = natAbs (sine t *ℤ sine t +ℤ cosine t *ℤ cosine t -ℤ pos unit *ℤ pos unit)
@@ -168,6 +168,9 @@ cosine-nonneg (negsuc θ) h = rw (cosine-even (pos (suc θ)), cosine-first (suc 
 
 pub sine-mono : (a b : ℕ) → a ≤ b → b ≤ right-angle → sine (pos a) ≤ℤ sine (pos b)
 sine-mono a b h l = rw (sine-first a (le-trans h l), sine-first b l) (pos-≤ℤ (quarter-mono h l))
+
+pub never-falls : NeverFalls
+never-falls = sine-mono
 
 pub cosine-anti : (a b : ℕ) → a ≤ b → b ≤ right-angle → cosine (pos b) ≤ℤ cosine (pos a)
 cosine-anti a b h l =

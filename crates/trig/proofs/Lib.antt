@@ -1,4 +1,7 @@
+pub mod Minute
+pub mod Arc
 pub mod Quarter
+pub mod Fraction
 pub mod Symmetry
 pub mod Turns
 pub mod Interface

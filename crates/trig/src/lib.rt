@@ -1,7 +1,6 @@
-// Sine and cosine of document 01, on whole numbers: angles in milliarcseconds (mas), sines in
+// Sine and cosine of documents 01 and 02, g), on whole numbers: angles in milliarcseconds (mas), sines in
 // billionths. Every function takes the table lent: see sine_table::table.
 use integers::magnitude;
-use integers::nearest;
 use integers::signed;
 use sine_table::Table;
 use units::FULL_TURN;
@@ -13,8 +12,9 @@ ghost use mathlib.Core.Path.{_≡_};
 ghost use Prim.Native.Nat.{_<_, _≤_, _^_};
 ghost use lib.IntN.{natAbs};
 ghost use Rattle.sine_table.specs.Table.{IsTable, entry};
-ghost use Rattle.units.specs.Units.{right-angle, half-turn};
+ghost use Rattle.units.specs.Units.{unit, right-angle, half-turn};
 ghost use Rattle.trig.specs.Sine.{quarter-minutes, first-quarter, first-half, sine, cosine};
+ghost use Rattle.trig.specs.Parts.{most-parts, whole-correction};
 
 // The minutes from 0 to 90°.
 pub const QUARTER_MINUTES: u64 = 5_400;
@@ -27,7 +27,27 @@ pub fn minute_sine(t: &Table, k: u64) -> u64
     t[k as usize] as u64
 }
 
-// The sine of an angle from 0 to 90°.
+// Between two minutes the sine lies above the straight line by T[k]·84,616·f·(1 − f)/(2·10^12), document 02, g). In 60,000ths
+// that is T[k]·r·(60,000 − r) times CURVE, divided by PART and by REST: in two steps, so that nothing leaves 64 bits.
+const CURVE: u64 = 10_577;
+
+const PART: u64 = 32_768;
+
+const REST: u64 = 457_763_671_875;
+
+// That correction in 60,000ths, rounded down. `parts` is r·(60,000 − r).
+fn correction(low: u64, parts: u64) -> u64
+    requires { ⌜ (low ≤ unit) × (parts ≤ most-parts) ⌝ }
+    ensures { λ y. ⌜ y ≡ whole-correction low parts ⌝ }
+{
+    let product = low * parts;
+    (product / PART * CURVE + product % PART * CURVE / PART) / REST
+}
+
+// Added before a division by a minute, so that it gives the nearest whole number.
+const HALF_MINUTE: u64 = 30_000;
+
+// The sine of an angle from 0 to 90°. The sum is never above T[k+1] (FractionSmall), so it need not be compared with it.
 pub fn first_quarter(t: &Table, theta: u64) -> u64
     requires { ⌜ IsTable (now t) × (theta ≤ right-angle) ⌝ }
     ensures { λ r. ⌜ r ≡ first-quarter theta ⌝ }
@@ -38,7 +58,8 @@ pub fn first_quarter(t: &Table, theta: u64) -> u64
     if r == 0 {
         return low;
     }
-    low + nearest((minute_sine(t, k + 1) - low) * r, MINUTE)
+    let rise = minute_sine(t, k + 1) - low;
+    low + (rise * r + HALF_MINUTE + correction(low, r * (MINUTE - r))) / MINUTE
 }
 
 // The sine of an angle from 0 to 180°.

@@ -1,5 +1,5 @@
 // Positions whose nearness G is exactly 20,000,000, which is accepted, and 19,999,999, refused 4.
-// The answers expected are those of a model of document 01's steps that shares no code with the library.
+// The answers expected are those of a model of the papers' steps that shares no code with the library.
 use crate::names;
 use crate::names::name;
 use crate::rows::forward_of;
@@ -27,12 +27,12 @@ pub(crate) fn forward_on_sphere(t: &Table)
     requires { ⌜ IsTable (now t) ⌝ }
 {
     let p = set(1_000_000_000, 0, 0, 0, 0, 0);
-    let near_enough = 606_677_982;
-    let too_far = 606_677_983;
+    let near_enough = 606_677_973;
+    let too_far = 606_677_974;
     name(names::COSINE_NEAR);
     value(cosine(t, near_enough));
     let q = forward_of(p, 0, near_enough);
-    row(names::G_LEAST, q, accepted(1_989_974_410, 0), 0);
+    row(names::G_LEAST, q, accepted(1_989_974_850, 0), 0);
     name(names::COSINE_FAR);
     value(cosine(t, too_far));
     refused_row(names::G_TOO_FAR, forward_of(p, 0, too_far), TOO_FAR);
@@ -54,12 +54,12 @@ pub(crate) fn oblique() {
     let p = Parameters::etrs_laea();
     let k = names::OBLIQUE_G_LEAST;
     let far = names::OBLIQUE_G_TOO_FAR;
-    let q = forward_of(p, -187_198_999, -544_884_392);
-    row(k, q, accepted(-825_813_202, 158_738_498), 0);
-    refused_row(far, forward_of(p, -187_200_000, -544_884_183), TOO_FAR);
-    let back = inverse_of(p, 497_749_301, -944_576_625);
+    let q = forward_of(p, -187_198_999, -544_884_351);
+    row(k, q, accepted(-825_813_960, 158_738_324), 0);
+    refused_row(far, forward_of(p, -187_200_000, -544_884_142), TOO_FAR);
+    let back = inverse_of(p, 497_749_301, -944_576_641);
     row(k, back, accepted(-228_367_873, -616_734_127), 0);
-    refused_row(far, inverse_of(p, 499_661_427, -944_476_160), TOO_FAR);
+    refused_row(far, inverse_of(p, 499_661_427, -944_476_176), TOO_FAR);
 }
 
 pub(crate) fn polar() {
@@ -67,9 +67,9 @@ pub(crate) fn polar() {
     let k = names::POLAR_G_LEAST;
     let far = names::POLAR_G_TOO_FAR;
     let lon = 18_000_000;
-    let q = forward_of(p, -282_858_462, lon);
-    row(k, q, accepted(1_224_656_797, 328_145_801), 0);
-    refused_row(far, forward_of(p, -282_858_463, lon), TOO_FAR);
+    let q = forward_of(p, -282_858_453, lon);
+    row(k, q, accepted(1_224_657_064, 328_145_871), 0);
+    refused_row(far, forward_of(p, -282_858_454, lon), TOO_FAR);
     let back = inverse_of(p, 73_269_173, -1_265_739_431);
     row(k, back, accepted(-282_858_452, -348_073_370), 0);
     refused_row(far, inverse_of(p, 75_180_552, -1_265_627_340), TOO_FAR);

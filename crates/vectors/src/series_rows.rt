@@ -92,10 +92,10 @@ fn ellipsoid(t: &Table, e2: i64)
 {
     tens(t, e2);
     row(t, e2, Authalic(179_544_997));
-    row(t, e2, Authalic(-280_642_174));
-    row(t, e2, Authalic(241_106_429));
-    row(t, e2, Authalic(-282_091_573));
-    row(t, e2, Authalic(207_208_785));
+    row(t, e2, Authalic(-280_532_365));
+    row(t, e2, Authalic(241_201_930));
+    row(t, e2, Authalic(-282_060_453));
+    row(t, e2, Authalic(207_474_425));
 }
 
 pub(crate) fn rows(t: &Table)

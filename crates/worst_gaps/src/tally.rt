@@ -8,9 +8,9 @@ ghost use Rattle.worst_gaps.specs.Tallies.{noTrips, counted, withTrip, r
 const COUNT_MOST: u64 = 1_000_000;
 
 // The bounds of demand 3: latitude in mas, longitude gap in thousandths of a mas.
-const LATITUDE_BOUND: u64 = 200;
+const LATITUDE_BOUND: u64 = 40;
 
-const GAP_BOUND: u64 = 200_000;
+const GAP_BOUND: u64 = 40_000;
 
 // Gaps are the largest so far: latitude in mas, longitude in thousandths of a mas.
 pub(crate) struct Tally {
@@ -102,7 +102,7 @@ impl Tally {
         printing::size(self.latitude);
         text(b" mas, worst longitude gap");
         printing::size(self.longitude);
-        text(b" thousandths of a mas, within 200 mas");
+        text(b" thousandths of a mas, within 40 mas");
         printing::verdict(self.is_within_bounds());
     }
 }

@@ -10,6 +10,10 @@ const LATITUDE: i64 = 324_000_000;
 const LONGITUDE: i64 = 648_000_000;
 const PLANE: i64 = 5_000_000_000;
 
+/// The sine's exact fraction ends in a half at the odd multiples of this in the first minute, and at
+/// no other angle up to 90°.
+const HALF: i64 = 3_750;
+
 /// Positions around one set. A refused set has no map, so Europe's stands in for its geometry.
 pub struct Ground {
     set: Set,
@@ -61,10 +65,10 @@ impl Ground {
             )),
             9 => {
                 let quarter = random.pick(&[0, 324_000_000, -324_000_000, 648_000_000]);
-                into.push((
-                    any.0,
-                    wrapped(self.set.lon0 + quarter + random.between(-1, 1)),
-                ));
+                let close = random.between(-1, 1);
+                let half = HALF * (2 * random.between(-8, 7) + 1);
+                let off = random.pick(&[close, half]);
+                into.push((any.0, wrapped(self.set.lon0 + quarter + off)));
             }
             10 => into.push((
                 random.between(120_000_000, 260_000_000),

@@ -5,6 +5,7 @@ use crate::table::table;
 
 pub const U: i128 = 1_000_000_000;
 pub const DEGREE: i128 = 3_600_000;
+const MINUTE: i128 = 60_000;
 const RIGHT: i128 = 90 * DEGREE;
 const FULL: i128 = 360 * DEGREE;
 const LEAST_NEARNESS: i128 = 20_000_000;
@@ -29,19 +30,29 @@ pub fn root(n: i128) -> i128 {
     r
 }
 
-/// Sine of any angle in mas, in billionths.
+/// Sine of any angle in mas, in billionths. "For r above 0, sine becomes the smaller of T[k+1] and
+/// T[k] + near of one exact fraction", by request g).
 pub fn sine(theta: i128) -> i128 {
     let turn = theta.rem_euclid(FULL);
     if turn > 2 * RIGHT {
         return -sine(FULL - turn);
     }
     let first = if turn > RIGHT { 2 * RIGHT - turn } else { turn };
-    let (k, r) = ((first / 60_000) as usize, first % 60_000);
+    let (k, r) = ((first / MINUTE) as usize, first % MINUTE);
     let t = table();
     if r == 0 {
         return t[k];
     }
-    t[k] + near((t[k + 1] - t[k]) * r, 60_000)
+    t[k + 1].min(t[k] + rise(t[k], t[k + 1], r))
+}
+
+/// "near of one exact fraction: (T[k+1] − T[k])·f + T[k]·84,616·f·(1 − f)/(2·10^12), with
+/// f = r/60,000", both parts brought over 60,000²·2·10^12.
+fn rise(t: i128, next: i128, r: i128) -> i128 {
+    let divisor = 2 * 10i128.pow(12);
+    let straight = (next - t) * r * MINUTE * divisor;
+    let bow = t * 84_616 * r * (MINUTE - r);
+    near(straight + bow, MINUTE * MINUTE * divisor)
 }
 
 pub fn cosine(theta: i128) -> i128 {

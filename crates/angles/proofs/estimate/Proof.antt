@@ -1,4 +1,4 @@
--- `trig::estimate` meets its contract: a sine is at most U, so its products with p and q up to their limit, and the sums of them, are
+-- `angles::estimate` meets its contract: a sine is at most U, so its products with p and q up to their limit, and the sums of them, are
 -- within 64 bits; whatever the angle that comes out, it is cut at 90°. Assumes nothing.
 use borrow.Author.Needs.{needs}
 use mathlib.Core.Path.{_≡_}
@@ -102,6 +102,9 @@ mul-excess-2 c = let m = products c in record { fits = omega arith }
 add-excess : tie.Need-add-excess
 add-excess c = let m = products c in record { fits = omega arith }
 
+add-excess-2 : tie.Need-add-excess-2
+add-excess-2 c = let m = products c in record { fits = omega arith }
+
 mul-excess-3 : tie.Need-mul-excess-3
 mul-excess-3 c = record { fits = omega (arith, products c .sp) }
 
@@ -144,6 +147,7 @@ estimate-spec =
     mul-excess
     mul-excess-2
     add-excess
+    add-excess-2
     mul-excess-3
     excess-requires
     div-theta

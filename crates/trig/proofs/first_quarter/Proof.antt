@@ -3,28 +3,19 @@
 use borrow.Author.Needs.{needs}
 use mathlib.Core.Path.{_≡_, sym, ap, ap₂, _∙_}
 use Prim.Native.Nat.{ℕ, suc, _+_, _-_, _*_, _/_, _%_, _<_, _≤_}
-use native.Mathlib.Nat.{le-of-lt, mul-le-mul}
+use native.Mathlib.Nat.{le-of-lt, mod-lt, mul-le-mul}
 use native.Mathlib.Numerals.{add-one}
 use native.Mathlib.Omega.{arith}
 use lib.Dec.{lit<}
-use borrow.Author.Tests.{eq-eqb, ne-eqb}
-use Rattle.integers.specs.Near.{nearest}
-use Rattle.integers.proofs.Rounding.{nearest-le}
+use Rattle.integers.proofs.Squares.{mean}
 use Rattle.units.specs.Units.{unit, minute}
 use Rattle.sine_table.specs.Table.{entry}
 use Rattle.sine_table.proofs.Laws.{rises, step, entry-at-most}
-use Rattle.trig.specs.Sine.{quarter-minutes, between, first-quarter}
+use Rattle.trig.specs.Sine.{quarter-minutes, first-quarter}
+use Rattle.trig.specs.Parts.{most-parts, whole-correction}
+use Rattle.trig.proofs.Fraction.{on-minute, past-minute, correction-small}
 use Rattle.trig.proofs.first_quarter.Statement.{statement}
 use Rattle.trig.proofs.first_quarter.Tie as tie
-
--- the two cases of the definition
-on-minute : (k r : ℕ) → r ≡ 0 → between k r ≡ entry k
-unfolding between
-on-minute k r e = rw (eq-eqb r 0 e)
-
-past-minute : (k r : ℕ) → (r ≡ 0 → ⊥) → between k r ≡ entry k + nearest ((entry (suc k) - entry k) * r) minute
-unfolding between
-past-minute k r e = rw (ne-eqb r 0 e)
 
 -- what is known once both entries are read
 module _ (c : tie.After-minute-sine2) where
@@ -55,14 +46,19 @@ module _ (c : tie.After-minute-sine2) where
   rise : low ≤ high
   rise = omega (arith, low-is, high-is, rises k k-inside)
 
-  product-small : (high - low) * r ≤ 290_889 * 59_999
+  product-small : (high - low) * r ≤ 295_000 * 59_999
   product-small =
-      let gap : high - low ≤ 290_889 = omega (arith, low-is, high-is, step k k-inside) in
+      let gap : high - low ≤ 295_000 = omega (arith, low-is, high-is, step k k-inside) in
       let part : r ≤ 59_999 = omega arith in
       mul-le-mul gap part
 
   low-small : low ≤ unit
   low-small = omega (arith, low-is, entry-at-most k (le-of-lt k-inside))
+
+  parts-small : r * (minute - r) ≤ most-parts
+  parts-small =
+      let whole : r + (minute - r) ≡ minute = omega arith in
+      omega (arith, rw whole at (mean r (minute - r)))
 
 minute-sine-requires : tie.Need-minute-sine-requires
 minute-sine-requires c κs = search needs
@@ -77,28 +73,45 @@ add-minute-sine c = search needs
 minute-sine-requires-2 : tie.Need-minute-sine-requires-2
 minute-sine-requires-2 c κs = search needs
 
-sub-nearest : tie.Need-sub-nearest
-sub-nearest c = rise c
+sub-rise : tie.Need-sub-rise
+sub-rise c = rise c
 
-mul-nearest : tie.Need-mul-nearest
-mul-nearest c = record { fits = omega (arith, product-small c) }
-
-nearest-requires : tie.Need-nearest-requires
-nearest-requires c κs = (lit< tt, omega (arith, product-small c))
+mul-result : tie.Need-mul-result
+mul-result c = record { fits = omega (arith, product-small c) }
 
 add-result : tie.Need-add-result
-add-result c =
-    let b = c .before in
-    let quotient-small = nearest-le ((high b - low b) * r b) minute (lit< tt) in
-    record { fits = omega (arith, c .nearest .ensures, product-small b, low-small b) }
+add-result c = record { fits = omega (arith, product-small c) }
+
+sub-correction : tie.Need-sub-correction
+sub-correction c = search needs
+
+mul-correction : tie.Need-mul-correction
+mul-correction c = record { fits = omega (arith, parts-small c) }
+
+correction-requires : tie.Need-correction-requires
+correction-requires c κs = (low-small c, parts-small c)
+
+-- the sum that is divided by a minute
+module _ (c : tie.After-correction) where
+  abbrev b : tie.After-minute-sine2
+  b = c .before
+
+  fraction-small : c .correction .result ≤ 1_000_000
+  fraction-small = rw (c .correction .ensures) (correction-small (low b) (r b * (minute - r b)) (low-small b) (parts-small b))
+
+add-result-2 : tie.Need-add-result-2
+add-result-2 c = record { fits = omega (arith, product-small (b c), fraction-small c) }
+
+add-result-3 : tie.Need-add-result-3
+add-result-3 c = record { fits = omega (arith, low-small (b c), product-small (b c), fraction-small c) }
 
 returns-2 : tie.Need-returns-2
 unfolding first-quarter
 returns-2 c =
-    let b = c .before in
-    ap (λ (x : ℕ). low b + x) (c .nearest .ensures)
-    ∙ ap₂ (λ (x y : ℕ). x + nearest ((y - x) * r b) minute) (low-is b) (high-is b)
-    ∙ sym (past-minute (k b) (r b) (b .before .if1 .left))
+    let d = b c in
+    ap (λ (y : ℕ). low d + ((high d - low d) * r d + 30_000 + y) / minute) (c .correction .ensures)
+    ∙ ap₂ (λ (x y : ℕ). x + ((y - x) * r d + 30_000 + whole-correction x (r d * (minute - r d))) / minute) (low-is d) (high-is d)
+    ∙ sym (past-minute (k d) (r d) (d .before .if1 .left) (k-inside d) (mod-lt (start d .args .theta) (lit< tt)))
 
 pub first-quarter-spec : {M : Type 1} → statement M
 first-quarter-spec =
@@ -108,8 +121,12 @@ first-quarter-spec =
     returns
     add-minute-sine
     minute-sine-requires-2
-    sub-nearest
-    mul-nearest
-    nearest-requires
+    sub-rise
+    mul-result
     add-result
+    sub-correction
+    mul-correction
+    correction-requires
+    add-result-2
+    add-result-3
     returns-2)
