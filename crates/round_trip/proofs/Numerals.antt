@@ -1,6 +1,6 @@
 -- The numbers of the round trip. All error bounds follow from one of them, A: how far sine² + cosine² may be from 1, in units of 1 / U.
 -- The rest of the proof asks of A only closed inequalities, which the checker computes: a better sine changes the one numeral of A. Assumes nothing.
-use Prim.Native.Nat.{ℕ, _+_, _*_}
+use Prim.Native.Nat.{ℕ, _+_, _*_, _/_}
 -- U: what stands for 1, of which sines and lengths are whole multiples
 pub use Rattle.units.specs.Units.{unit}
 -- | sine² + cosine² − U² | ≤ A · U
@@ -37,6 +37,6 @@ H0 = 707_106_781
 abbrev pub least-cosine : ℕ
 least-cosine = 17_000_000
 
--- the error of β, in mas: (5 (ER + Ez) + 34) / 24, rounded down
+-- the error of β, in mas, rounded down
 abbrev pub Eβ : ℕ
-Eβ = 27
+Eβ = (5 * (ER + Ez) + 34) / 24

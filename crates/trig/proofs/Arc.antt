@@ -1,6 +1,6 @@
 -- A sine and its cosine are near the circle: together they are a point of the chord between two points of the table, moved out onto the arc by the
 -- correction, and rounded. Assumes nothing.
-use mathlib.Core.Path.{_≡_, refl, ap, _∙_, subst₂}
+use mathlib.Core.Path.{_≡_, refl, ap, subst₂}
 use Prim.Native.Nat.{ℕ, _+_, _*_, _<_, _≤_}
 use native.Mathlib.Nat.{mul-le-mul, mul-le-mul-left, le-of-mul-le-mul-left}
 use native.Mathlib.Omega.{arith}

@@ -13,7 +13,7 @@ abbrev pub quarter-minutes : ℕ
 quarter-minutes = 5_400
 
 -- θ is "60,000k + r, r below 60,000", and f is r/60,000.
--- "(T[k+1] − T[k])·f + T[k]·84,616·f·(1 − f)/(2·10^12)", document 02, g), as one fraction: over 2·10^12 and a minute for each f.
+-- "(T[k+1] − T[k])·f + T[k]·84,616·f·(1 − f)/(2·10^12)", document 02, g), as one fraction over 2·10^12·60,000².
 unfoldable pub fraction-numerator : ℕ → ℕ → ℕ
 fraction-numerator k r =
     (entry (suc k) - entry k) * r * (2_000_000_000_000 * minute)

@@ -1,6 +1,6 @@
 -- `trig::correction` meets its contract: the division goes in two steps, and each product of them stays in 64 bits. Assumes nothing.
 use borrow.Author.Needs.{needs}
-use Prim.Native.Nat.{ℕ, _*_, _≤_}
+use Prim.Native.Nat.{_*_, _≤_}
 use native.Mathlib.Nat.{mul-le-mul}
 use native.Mathlib.Omega.{arith}
 use Rattle.units.specs.Units.{unit}
