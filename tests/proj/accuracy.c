@@ -6,7 +6,7 @@
  *
  * The mean is over positions drawn evenly by area. The worst is looked for from the worst position
  * of each list of them, among positions nearer and nearer to it: a few positions among millions are
- * bad, since the error rises and falls with each minute of arc.
+ * bad, since the error is a sum of roundings.
  */
 #include <math.h>
 #include <stdio.h>
@@ -120,11 +120,11 @@ static int print_table(const char *name, Measure *measure, const Row *rows, int 
 
 int main(void)
 {
-    static const Row FORWARD[] = {{&EUROPE, 0.17, 0.065}, {&HALF_GLOBE, 0.53, 0.19}, {&ACCEPTED, 10.5, 0.8}};
-    static const Row INVERSE[] = {{&EUROPE, 0.14, 0.05}, {&HALF_GLOBE, 0.4, 0.12}, {&ACCEPTED, 3, 0.35}};
-    static const Row RETURN[] = {{&EUROPE, 0.14, 0.03}, {&HALF_GLOBE, 0.5, 0.14}, {&ACCEPTED, 110, 5.5}};
-    static const Row LATITUDE[] = {{&HALF_GLOBE, 16, 4}};
-    static const Row LONGITUDE[] = {{&HALF_GLOBE, 8, 2}};
+    static const Row FORWARD[] = {{&EUROPE, 0.09, 0.03}, {&HALF_GLOBE, 0.13, 0.04}, {&ACCEPTED, 1, 0.07}};
+    static const Row INVERSE[] = {{&EUROPE, 0.08, 0.035}, {&HALF_GLOBE, 0.19, 0.055}, {&ACCEPTED, 1, 0.12}};
+    static const Row RETURN[] = {{&EUROPE, 0.075, 0.022}, {&HALF_GLOBE, 0.11, 0.03}, {&ACCEPTED, 10, 0.2}};
+    static const Row LATITUDE[] = {{&HALF_GLOBE, 4, 0.7}};
+    static const Row LONGITUDE[] = {{&HALF_GLOBE, 3, 0.7}};
     int good = 1;
     set = LAEA_ETRS_LAEA;
     proj = projection(set);

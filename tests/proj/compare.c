@@ -10,8 +10,8 @@
 
 #define LISTS 50
 
-static const double BOUND_METRES = 1.0;
-static const double BOUND_MAS = 20.0;
+static const double BOUND_METRES = 0.4;
+static const double BOUND_MAS = 18.0;
 
 typedef struct {
     const char *name;

@@ -125,7 +125,7 @@ const RADIAN: u64 = 206_264_806;
 
 const TEN_MINUTES: u64 = 600_000;
 
-// The estimate adds this part of a mas: fitted to the sine, so that it misses the fewest angles.
+// The estimate adds 1/FIT of a mas: fitted to the sine, so that it misses about the fewest angles.
 const FIT: u64 = 32;
 
 // angle(p, q), mostly to the mas where p or q is large. The part of it past minute k has the tangent

@@ -1,4 +1,4 @@
--- Laws of root, from those of the greatest number that passes a test; and that the geometric mean is at most the arithmetic one.
+-- Laws of root, from those of the greatest number that passes a test; and of the sum of two numbers, by their product and by their squares.
 -- Assumes nothing.
 use mathlib.Core.Path.{_≡_, subst}
 use mathlib.Core.Logic.{_⊎_, inl, inr}
@@ -8,7 +8,7 @@ use native.Mathlib.Omega.{arith}
 use lib.Dec.{leb}
 use borrow.Author.Tests.{le-leb, lt-leb, leb-true}
 use Rattle.proof_kit.proofs.Order.{le-or-lt}
-use Rattle.proof_kit.proofs.Size.{square-lt}
+use Rattle.proof_kit.proofs.Size.{square-lt, square-le}
 use Rattle.integers.specs.Root.{root}
 use Rattle.integers.proofs.Greatest.{greatest-is, greatest-passes, greatest-ge}
 
@@ -61,3 +61,7 @@ mean a b = at (le-or-lt a b)
     at : (a ≤ b) ⊎ (b < a) → 4 * (a * b) ≤ (a + b) * (a + b)
     at (inl h) = subst (λ (x : ℕ). 4 * (a * x) ≤ (a + x) * (a + x)) (add-sub-of-le h) (apart a (b - a))
     at (inr h) = subst (λ (x : ℕ). 4 * (x * b) ≤ (x + b) * (x + b)) (add-sub-of-le (le-of-lt h)) (other b (a - b))
+
+-- the sum of two numbers, where the sum of their squares is at most 9/8 of a square
+pub sum-by-squares : (a b n : ℕ) → 8 * (a * a + b * b) ≤ 9 * (n * n) → 2 * (a + b) ≤ 3 * n
+sum-by-squares a b n h = square-le (2 * (a + b)) (3 * n) (omega (arith, mean a b))

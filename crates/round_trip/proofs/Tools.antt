@@ -2,17 +2,13 @@
 -- A rounded quotient enters by how far it is from the exact one (`Near`), a root by the two squares that hold its number (`Root`): no rounding is computed
 -- here. A bound on a k-fold is one on the number itself, and a bound on a sum of squares is one on the sum. Assumes nothing.
 use mathlib.Core.Path.{_≡_, refl, sym}
-use mathlib.Core.List.{[], _∷_}
 use Prim.Native.Nat.{ℕ, suc, _+_, _*_, _≤_, _<_}
 use native.Mathlib.Nat.{le-refl}
 use native.Mathlib.Omega.{arith}
 use lib.IntN.{ℤ, pos, _+ℤ_, _-ℤ_, _*ℤ_, natAbs, -ℤ-+ℤ-cancel}
-use lib.Signed.{_≤ℤ_}
-use Rattle.proof_kit.proofs.Certificate.{certify, nonneg}
 use Rattle.proof_kit.proofs.Laws.{natAbs-parts, parts--, one-part}
-use Rattle.proof_kit.proofs.Order.{pos-≤}
-use Rattle.proof_kit.proofs.Ring.{quote}
-use Rattle.proof_kit.proofs.Size.{Sized, plus, given, sizes, most, abs-mul, abs-by, abs-cancel, square-abs, square-le, within-upper, within-lower}
+use Rattle.proof_kit.proofs.Size.{Sized, plus, given, sizes, most, abs-mul, abs-by, abs-cancel, square-abs, within-upper, within-lower}
+use Rattle.integers.proofs.Squares.{sum-by-squares as by-squares}
 use Rattle.round_trip.proofs.Numerals.{unit, half, A}
 
 -- ---- what is given
@@ -74,11 +70,6 @@ squares-upper x y n h = within-upper (natAbs x * natAbs x + natAbs y * natAbs y)
 pub squares-lower : (x y : ℤ) (n : ℕ) {d : ℕ} → natAbs (x *ℤ x +ℤ y *ℤ y -ℤ pos n) ≤ d → n ≤ natAbs x * natAbs x + natAbs y * natAbs y + d
 squares-lower x y n h = within-lower (natAbs x * natAbs x + natAbs y * natAbs y) n (rw (squares x y) at h)
 
--- twice a product is at most the sum of the squares
-twice-product : (x y : ℤ) → (pos 2 *ℤ (x *ℤ y)) ≤ℤ (x *ℤ x +ℤ y *ℤ y)
-twice-product x y =
-    certify (x ∷ y ∷ []) 1 ((x -ℤ y) *ℤ (x -ℤ y)) (search nonneg depth 40 fits 20000) (search quote depth 40 fits 20000) tt
-
 -- if x² + y² is at most 9/8, then x + y is at most 3/2
 pub sum-by-squares : (x y : ℕ) → 8 * (x * x + y * y) ≤ 9 * (unit * unit) → 2 * (x + y) ≤ 3 * unit
-sum-by-squares x y h = square-le (2 * (x + y)) (3 * unit) (omega (arith, pos-≤ (twice-product (pos x) (pos y))))
+sum-by-squares x y = by-squares x y unit

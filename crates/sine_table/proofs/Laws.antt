@@ -95,7 +95,7 @@ pub slope :
     fine * 290_000 * entry (5400 - k) + unit * (curve * entry k) ≤ unit * (fine * (entry (suc k) - entry k)) + fine * 290_000 * 600_000
 slope k h = at k h 2
 
--- The correction bends the sine back by less than a half beyond the next entry.
+-- At the end of a minute the sine falls by at most a half to the minute.
 pub bent-back : (k : ℕ) → k < 5400 → 2 * (curve * entry k) ≤ 2 * (fine * (entry (suc k) - entry k)) + fine
 bent-back k h = at k h 3
 

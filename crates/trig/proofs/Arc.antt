@@ -4,8 +4,7 @@ use mathlib.Core.Path.{_≡_, refl, ap, subst₂}
 use Prim.Native.Nat.{ℕ, _+_, _*_, _<_, _≤_}
 use native.Mathlib.Nat.{mul-le-mul, mul-le-mul-left, le-of-mul-le-mul-left}
 use native.Mathlib.Omega.{arith}
-use Rattle.proof_kit.proofs.Size.{square-le}
-use Rattle.integers.proofs.Squares.{mean}
+use Rattle.integers.proofs.Squares.{mean, sum-by-squares}
 use Rattle.units.specs.Units.{unit, minute}
 use Rattle.sine_table.proofs.Laws.{curve, half-fine, chord, arc-error, Arc, OnCircle}
 use Rattle.trig.proofs.Minute.{per-mas}
@@ -52,10 +51,6 @@ squares-near {L} {x} {a} rounded =
       up = omega (arith, square-near (L * 30_000) (x * (L * minute)) a (rounded .low));
       down = omega (arith, square-near (L * 30_000) a (x * (L * minute)) (rounded .high), mul-le-mul-left L (rounded .low));
     }
-
--- the sum of two sides, where the sum of their squares is at most 9/8 of a square
-sides : (a b n : ℕ) → 8 * (a * a + b * b) ≤ 9 * (n * n) → 2 * (a + b) ≤ 3 * n
-sides a b n h = square-le (2 * (a + b)) (3 * n) (omega (arith, mean a b))
 
 -- s² + c² is within 3 U of U²
 pub record NearCircle (s c : ℕ) : Type 0 where
@@ -120,7 +115,7 @@ module _ (L a b x y : ℕ) (some-L : 0 < L) (near : NearRadius L a b) (sine-roun
   unfolding thin
   both =
       let far : 8 * (a * a + b * b) ≤ 9 * (minute * full L) = not-far (a * a + b * b) (full L) (thin L) (near .high) (omega (arith, full-thin L)) in
-      let turned : 2 * (a + b) ≤ 3 * (L * (minute * unit)) = sides a b (L * (minute * unit)) (rw (full-square L) at far) in
+      let turned : 2 * (a + b) ≤ 3 * (L * (minute * unit)) = sum-by-squares a b (L * (minute * unit)) (rw (full-square L) at far) in
       scaled (mul-le-mul-left L turned)
     where
       scaled : L * (2 * (a + b)) ≤ L * (3 * (L * (minute * unit))) → 2 * (L * a + L * b) ≤ 3 * (L * L * (minute * unit))

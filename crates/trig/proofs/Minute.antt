@@ -1,5 +1,5 @@
--- The sine in a minute: one fraction, rounded once. The fraction bends over its minute, and by the table's tests by so little that it ends less
--- than half a unit beyond the next entry. So the sine is never above that entry, and it never falls. Assumes nothing.
+-- The sine in a minute: one fraction, rounded once. The fraction bends over its minute, and by the table's tests by so little that it is never
+-- half a unit beyond the next entry. So the sine is never above that entry, and it never falls. Assumes nothing.
 use mathlib.Core.Path.{_≡_, refl, sym, ap, _∙_}
 use mathlib.Core.Bool.{Bool, true, false, cond}
 use mathlib.Core.Logic.{_⊎_, inl, inr}
@@ -15,9 +15,9 @@ use Rattle.integers.proofs.Rounding.{nearest-low, nearest-high, nearest-only, n
 use Rattle.units.specs.Units.{minute}
 use Rattle.sine_table.specs.Table.{entry}
 use Rattle.sine_table.proofs.Laws.{curve, fine, rises, bent-back}
-use Rattle.trig.specs.Sine.{fraction-numerator, fraction-denominator, between, FractionSmall}
+use Rattle.trig.specs.Sine.{fraction-numerator, fraction-denominator, between, AtMostNext}
 
--- the denominator of the sine in a minute, an eighth of the paper's; a mas of it, for a rise of 1 in the minute
+-- the denominator of the sine in a minute, an eighth of the paper's; and what the numerator gains in a mas where the entries differ by 1
 abbrev pub scale : ℕ
 scale = fine * (minute * minute)
 
@@ -38,7 +38,7 @@ rise k q r = gap k * r * per-mas + curve * (entry k * (r * q))
 unfoldable pub node : (k q r : ℕ) → ℕ
 node k q r = entry k * scale + rise k q r
 
-pub node-start : (k q : ℕ) → node k q 0 ≡ entry k * scale
+node-start : (k q : ℕ) → node k q 0 ≡ entry k * scale
 unfolding node rise
 node-start k q = omega arith
 
@@ -95,12 +95,12 @@ under-next k q r i =
 rounded-under : (n x : ℕ) → 2 * n < 2 * (x * scale) + scale → nearest n scale ≤ x
 rounded-under n x h = omega (arith, nearest-low n some-scale)
 
-at-most-next : (k q r : ℕ) → Inside k q r → nearest (node k q r) scale ≤ entry (suc k)
-at-most-next k q r i = rounded-under (node k q r) (entry (suc k)) (under-next k q r i)
+rounded-at-most : (k q r : ℕ) → Inside k q r → nearest (node k q r) scale ≤ entry (suc k)
+rounded-at-most k q r i = rounded-under (node k q r) (entry (suc k)) (under-next k q r i)
 
-pub fraction-small : FractionSmall
-fraction-small k r b early =
-    rw (fraction-near k r) (at-most-next k (minute - r) r (record { whole = omega arith; below = b }))
+pub at-most-next : AtMostNext
+at-most-next k r b early =
+    rw (fraction-near k r) (rounded-at-most k (minute - r) r (record { whole = omega arith; below = b }))
 
 -- so the smaller of the two is the sum
 pub between-near : (k r : ℕ) → r < minute → ((r ≡ 0 → ⊥) → k < 5400) → between k r ≡ nearest (node k (minute - r) r) scale
@@ -112,7 +112,7 @@ between-near k r early below = at (eqb r 0) refl
         eqb r 0 ≡ t →
         cond t (entry k) (min (entry (suc k)) (entry k + nearest (fraction-numerator k r) fraction-denominator)) ≡ nearest (node k (minute - r) r) scale
     at true e = rw (eqb-true r 0 e) (sym (ap (λ (n : ℕ). nearest n scale) (node-start k minute) ∙ nearest-whole (entry k) scale some-scale))
-    at false e = min-eq-right (fraction-small k r (below (eqb-false r 0 e)) early) ∙ fraction-near k r
+    at false e = min-eq-right (at-most-next k r (below (eqb-false r 0 e)) early) ∙ fraction-near k r
 
 -- the end of a minute is the start of the next
 pub node-end : (k : ℕ) → k < 5400 → node k 0 minute ≡ node (suc k) minute 0
@@ -155,4 +155,4 @@ module _ (k q r : ℕ) (whole : q + suc r ≡ minute) (below : k < 5400) where
           let last : 2 * r + 1 ≤ suc r + minute = omega (arith, whole) in
           let steep : per-mas * gap k ≤ curve * entry k * suc r = omega (arith, mul-le-mul-left (curve * entry k) last) in
           let reached = nearest-mono scale some-scale (past-next steep) in
-          omega (arith, at-most-next k (suc q) r start, reached, nearest-whole (entry (suc k)) scale some-scale)
+          omega (arith, rounded-at-most k (suc q) r start, reached, nearest-whole (entry (suc k)) scale some-scale)

@@ -115,7 +115,7 @@ quarter-minute k =
     let e : k * minute ≡ k * minute + 0 = omega arith in
     rw (e, digits-div k some, digits-mod k some)
 
--- the numerator's step is at least that at the end of its minute, which is nearly the cosine there
+-- the numerator's step is at least that at the end of its minute, which is nearly as much as the cosine at its start asks for
 step-least : (θ : ℕ) (p : Place θ) →
     unit * numerator θ + per-mas * 290_000 * entry (5400 - p .k) ≤ unit * numerator (suc θ) + per-mas * 290_000 * 600_000
 unfolding gap
@@ -184,7 +184,7 @@ from-start q r s e whole = omega (arith, ap (λ (n : ℕ). s * n) whole)
 from-end : (q r c d : ℕ) → q + r ≡ minute → c * scale + (d * q * per-mas + curve * (c * (q * r))) ≡ per-mas * (q * (c + d) + r * c) + curve * (q * r) * c
 from-end q r c d whole = omega (arith, ap (λ (n : ℕ). c * n) whole)
 
--- r mas past minute k, which is q mas before the end of minute j counted from 90°
+-- r mas past minute k, and as many before 90° as q mas past minute j
 module _ (k r j q : ℕ) (both : k + j ≡ 5399) (whole : q + r ≡ minute) where
   k-inside : k < 5400
   k-inside = omega arith

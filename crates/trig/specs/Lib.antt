@@ -1,2 +1,2 @@
 pub mod Sine
-pub mod Parts
+pub mod Correction

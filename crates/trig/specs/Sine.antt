@@ -14,6 +14,7 @@ quarter-minutes = 5_400
 
 -- θ is "60,000k + r, r below 60,000", and f is r/60,000.
 -- "(T[k+1] − T[k])·f + T[k]·84,616·f·(1 − f)/(2·10^12)", document 02, g), as one fraction over 2·10^12·60,000².
+-- T rises and r is below 60,000, so that neither difference is cut at 0.
 unfoldable pub fraction-numerator : ℕ → ℕ → ℕ
 fraction-numerator k r =
     (entry (suc k) - entry k) * r * (2_000_000_000_000 * minute)
@@ -23,7 +24,7 @@ abbrev pub fraction-denominator : ℕ
 fraction-denominator = 2_000_000_000_000 * (minute * minute)
 
 -- "For r above 0, sine becomes the smaller of T[k+1] and T[k] + near of one exact fraction", "for r = 0 it is T[k]."
--- Where a proof opens `between`, the line under the signature opens the fraction too, so that it computes.
+-- What opens `between` opens the fraction too, by the line under the signature, so that the sine of a numeral computes.
 unfoldable pub between : ℕ → ℕ → ℕ
 unfolding fraction-numerator
 between k r =
@@ -50,10 +51,10 @@ sine (negsuc θ) = negℤ (one-turn (suc θ % full-turn))
 unfoldable pub cosine : ℤ → ℤ
 cosine θ = sine (pos right-angle -ℤ θ)
 
--- "From 0 to 90° it still never falls." What `NeverFalls` states is proved as `never-falls` in proofs/, and `FractionSmall` as `fraction-small`.
+-- "From 0 to 90° it still never falls." What `NeverFalls` states is proved as `never-falls` in proofs/Interface.antt.
 abbrev pub NeverFalls : Type 0
 NeverFalls = (θ θ′ : ℕ) → θ ≤ θ′ → θ′ ≤ right-angle → sine (pos θ) ≤ℤ sine (pos θ′)
 
--- The sum is itself the smaller of the two, in every minute: the code need not compare.
-abbrev pub FractionSmall : Type 0
-FractionSmall = (k r : ℕ) → k < quarter-minutes → r < minute → entry k + nearest (fraction-numerator k r) fraction-denominator ≤ entry (suc k)
+-- The sum is itself the smaller of the two, in every minute, so that the code need not compare; proved as `at-most-next` in proofs/Minute.antt.
+abbrev pub AtMostNext : Type 0
+AtMostNext = (k r : ℕ) → k < quarter-minutes → r < minute → entry k + nearest (fraction-numerator k r) fraction-denominator ≤ entry (suc k)

@@ -14,7 +14,7 @@ ghost use lib.IntN.{natAbs};
 ghost use Rattle.sine_table.specs.Table.{IsTable, entry};
 ghost use Rattle.units.specs.Units.{unit, right-angle, half-turn};
 ghost use Rattle.trig.specs.Sine.{quarter-minutes, first-quarter, first-half, sine, cosine};
-ghost use Rattle.trig.specs.Parts.{most-parts, whole-correction};
+ghost use Rattle.trig.specs.Correction.{most-product, whole-correction};
 
 // The minutes from 0 to 90°.
 pub const QUARTER_MINUTES: u64 = 5_400;
@@ -27,27 +27,30 @@ pub fn minute_sine(t: &Table, k: u64) -> u64
     t[k as usize] as u64
 }
 
-// Between two minutes the sine lies above the straight line by T[k]·84,616·f·(1 − f)/(2·10^12), document 02, g). In 60,000ths
-// that is T[k]·r·(60,000 − r) times CURVE, divided by PART and by REST: in two steps, so that nothing leaves 64 bits.
+// Between two minutes the sine lies above the straight line by T[k]·84,616·f·(1 − f)/(2·10^12), document
+// 02, g). In 60,000ths that is T[k]·r·(60,000 − r)·84,616/(2·10^12·60,000). Divided by 8, the last two are
+// CURVE and 15·10^15, which is PART times REST: the division goes in two steps, so that nothing leaves 64
+// bits.
 const CURVE: u64 = 10_577;
 
 const PART: u64 = 32_768;
 
 const REST: u64 = 457_763_671_875;
 
-// That correction in 60,000ths, rounded down. `parts` is r·(60,000 − r).
-fn correction(low: u64, parts: u64) -> u64
-    requires { ⌜ (low ≤ unit) × (parts ≤ most-parts) ⌝ }
-    ensures { λ y. ⌜ y ≡ whole-correction low parts ⌝ }
+// That correction in 60,000ths, rounded down. `product` is r·(60,000 − r).
+fn correction(low: u64, product: u64) -> u64
+    requires { ⌜ (low ≤ unit) × (product ≤ most-product) ⌝ }
+    ensures { λ y. ⌜ y ≡ whole-correction low product ⌝ }
 {
-    let product = low * parts;
-    (product / PART * CURVE + product % PART * CURVE / PART) / REST
+    let n = low * product;
+    (n / PART * CURVE + n % PART * CURVE / PART) / REST
 }
 
 // Added before a division by a minute, so that it gives the nearest whole number.
 const HALF_MINUTE: u64 = 30_000;
 
-// The sine of an angle from 0 to 90°. The sum is never above T[k+1] (FractionSmall), so it need not be compared with it.
+// The sine of an angle from 0 to 90°. The sum is never above T[k+1] (AtMostNext), so the two need not be
+// compared.
 pub fn first_quarter(t: &Table, theta: u64) -> u64
     requires { ⌜ IsTable (now t) × (theta ≤ right-angle) ⌝ }
     ensures { λ r. ⌜ r ≡ first-quarter theta ⌝ }

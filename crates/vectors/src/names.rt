@@ -67,40 +67,38 @@ pub(crate) const SOUTH_POLAR_CENTRE: usize = 29;
 pub(crate) const SOUTH_POLE_ELSEWHERE: usize = 30;
 
 // On both sides of the least nearness.
-pub(crate) const COSINE_NEAR: usize = 31;
+pub(crate) const COSINE: usize = 31;
 
 pub(crate) const G_LEAST: usize = 32;
 
-pub(crate) const COSINE_FAR: usize = 33;
+pub(crate) const G_TOO_FAR: usize = 33;
 
-pub(crate) const G_TOO_FAR: usize = 34;
+pub(crate) const K: usize = 34;
 
-pub(crate) const K: usize = 35;
+pub(crate) const OBLIQUE_G_LEAST: usize = 35;
 
-pub(crate) const OBLIQUE_G_LEAST: usize = 36;
+pub(crate) const OBLIQUE_G_TOO_FAR: usize = 36;
 
-pub(crate) const OBLIQUE_G_TOO_FAR: usize = 37;
+pub(crate) const POLAR_G_LEAST: usize = 37;
 
-pub(crate) const POLAR_G_LEAST: usize = 38;
-
-pub(crate) const POLAR_G_TOO_FAR: usize = 39;
+pub(crate) const POLAR_G_TOO_FAR: usize = 38;
 
 // The fields of a set, and what stands before the rows of a set with its fields named above them.
-pub(crate) const A: usize = 40;
+pub(crate) const A: usize = 39;
 
-pub(crate) const E2: usize = 41;
+pub(crate) const E2: usize = 40;
 
-pub(crate) const LAT0: usize = 42;
+pub(crate) const LAT0: usize = 41;
 
-pub(crate) const LON0: usize = 43;
+pub(crate) const LON0: usize = 42;
 
-pub(crate) const FALSE_EASTING: usize = 44;
+pub(crate) const FALSE_EASTING: usize = 43;
 
-pub(crate) const FALSE_NORTHING: usize = 45;
+pub(crate) const FALSE_NORTHING: usize = 44;
 
-pub(crate) const OF_A_SET: usize = 46;
+pub(crate) const OF_A_SET: usize = 45;
 
-pub(crate) const ETRS_LAEA: usize = 47;
+pub(crate) const ETRS_LAEA: usize = 46;
 
 pub(crate) fn name(k: usize) {
     line(
@@ -135,9 +133,8 @@ north polar centre
 north pole at another longitude
 south polar centre
 south pole at another longitude
-cosine(606677982)
+cosine of
 G 20000000
-cosine(606677983)
 G 19999999
 K
 oblique G 20000000

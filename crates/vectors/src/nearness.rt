@@ -9,6 +9,7 @@ use crate::rows::row;
 use crate::rows::set;
 use integers::near;
 use parameters::Parameters;
+use printing::number;
 use printing::value;
 use sine_table::Table;
 use trig::cosine;
@@ -29,11 +30,13 @@ pub(crate) fn forward_on_sphere(t: &Table)
     let p = set(1_000_000_000, 0, 0, 0, 0, 0);
     let near_enough = 606_677_973;
     let too_far = 606_677_974;
-    name(names::COSINE_NEAR);
+    name(names::COSINE);
+    number(near_enough);
     value(cosine(t, near_enough));
     let q = forward_of(p, 0, near_enough);
     row(names::G_LEAST, q, accepted(1_989_974_850, 0), 0);
-    name(names::COSINE_FAR);
+    name(names::COSINE);
+    number(too_far);
     value(cosine(t, too_far));
     refused_row(names::G_TOO_FAR, forward_of(p, 0, too_far), TOO_FAR);
 }

@@ -4,17 +4,17 @@ use Prim.Native.Nat.{_*_, _≤_}
 use native.Mathlib.Nat.{mul-le-mul}
 use native.Mathlib.Omega.{arith}
 use Rattle.units.specs.Units.{unit}
-use Rattle.trig.specs.Parts.{most-parts, whole-correction}
+use Rattle.trig.specs.Correction.{most-product, whole-correction}
 use Rattle.trig.proofs.Fraction.{two-steps}
 use Rattle.trig.proofs.correction.Statement.{statement}
 use Rattle.trig.proofs.correction.Tie as tie
 
 -- the product of the entry and r·(60,000 − r)
-product-small : (c : tie.Start) → c .args .low * c .args .parts ≤ unit * most-parts
+product-small : (c : tie.Start) → c .args .low * c .args .product ≤ unit * most-product
 product-small c = mul-le-mul (c .pre .0) (c .pre .1)
 
-mul-product : tie.Need-mul-product
-mul-product c = record { fits = omega (arith, product-small c) }
+mul-n : tie.Need-mul-n
+mul-n c = record { fits = omega (arith, product-small c) }
 
 mul-result : tie.Need-mul-result
 mul-result c = record { fits = omega (arith, product-small c) }
@@ -27,7 +27,7 @@ add-result c = record { fits = omega (arith, product-small c) }
 
 returns : tie.Need-returns
 unfolding whole-correction
-returns c = two-steps (c .args .low * c .args .parts)
+returns c = two-steps (c .args .low * c .args .product)
 
 pub correction-spec : {M : Type 1} → statement M
-correction-spec = tie.close (tie.spec mul-product mul-result mul-result-2 add-result returns)
+correction-spec = tie.close (tie.spec mul-n mul-result mul-result-2 add-result returns)

@@ -1,5 +1,5 @@
 -- `trig::first_quarter` meets its contract: it follows the two cases of the definition. Where r is not 0, θ is below 90°, so minute k + 1
--- is still in the table; the table rises, and by so little in a minute that its product with r is small. Assumes nothing.
+-- is still in the table; the table rises, and by so little in a minute that its product with r is small, and so is the correction. Assumes nothing.
 use borrow.Author.Needs.{needs}
 use mathlib.Core.Path.{_≡_, sym, ap, ap₂, _∙_}
 use Prim.Native.Nat.{ℕ, suc, _+_, _-_, _*_, _/_, _%_, _<_, _≤_}
@@ -12,7 +12,7 @@ use Rattle.units.specs.Units.{unit, minute}
 use Rattle.sine_table.specs.Table.{entry}
 use Rattle.sine_table.proofs.Laws.{rises, step, entry-at-most}
 use Rattle.trig.specs.Sine.{quarter-minutes, first-quarter}
-use Rattle.trig.specs.Parts.{most-parts, whole-correction}
+use Rattle.trig.specs.Correction.{most-product, whole-correction}
 use Rattle.trig.proofs.Fraction.{on-minute, past-minute, correction-small}
 use Rattle.trig.proofs.first_quarter.Statement.{statement}
 use Rattle.trig.proofs.first_quarter.Tie as tie
@@ -55,8 +55,8 @@ module _ (c : tie.After-minute-sine2) where
   low-small : low ≤ unit
   low-small = omega (arith, low-is, entry-at-most k (le-of-lt k-inside))
 
-  parts-small : r * (minute - r) ≤ most-parts
-  parts-small =
+  factors-small : r * (minute - r) ≤ most-product
+  factors-small =
       let whole : r + (minute - r) ≡ minute = omega arith in
       omega (arith, rw whole at (mean r (minute - r)))
 
@@ -86,24 +86,24 @@ sub-correction : tie.Need-sub-correction
 sub-correction c = search needs
 
 mul-correction : tie.Need-mul-correction
-mul-correction c = record { fits = omega (arith, parts-small c) }
+mul-correction c = record { fits = omega (arith, factors-small c) }
 
 correction-requires : tie.Need-correction-requires
-correction-requires c κs = (low-small c, parts-small c)
+correction-requires c κs = (low-small c, factors-small c)
 
 -- the sum that is divided by a minute
 module _ (c : tie.After-correction) where
   abbrev b : tie.After-minute-sine2
   b = c .before
 
-  fraction-small : c .correction .result ≤ 1_000_000
-  fraction-small = rw (c .correction .ensures) (correction-small (low b) (r b * (minute - r b)) (low-small b) (parts-small b))
+  correction-fits : c .correction .result ≤ 1_000_000
+  correction-fits = rw (c .correction .ensures) (correction-small (low b) (r b * (minute - r b)) (low-small b) (factors-small b))
 
 add-result-2 : tie.Need-add-result-2
-add-result-2 c = record { fits = omega (arith, product-small (b c), fraction-small c) }
+add-result-2 c = record { fits = omega (arith, product-small (b c), correction-fits c) }
 
 add-result-3 : tie.Need-add-result-3
-add-result-3 c = record { fits = omega (arith, low-small (b c), product-small (b c), fraction-small c) }
+add-result-3 c = record { fits = omega (arith, low-small (b c), product-small (b c), correction-fits c) }
 
 returns-2 : tie.Need-returns-2
 unfolding first-quarter

@@ -1,0 +1,11 @@
+-- Inner: the correction between two minutes as the code adds it to the straight line. The paper's own fraction is in Sine.antt.
+use Prim.Native.Nat.{ℕ, _*_, _/_}
+use Rattle.units.specs.Units.{minute}
+
+-- r·(60,000 − r) is at most this.
+abbrev pub most-product : ℕ
+most-product = 900_000_000
+
+-- T[k]·84,616·f·(1 − f)/(2·10^12) in 60,000ths, rounded down, where `product` is r·(60,000 − r).
+unfoldable pub whole-correction : ℕ → ℕ → ℕ
+whole-correction low product = low * product * 84_616 / (2_000_000_000_000 * minute)
