@@ -1,4 +1,5 @@
--- The sine from 0 to 90°, on natural numbers: never falling, its step, its slope from below, and sine² + cosine². Assumes nothing.
+-- The sine from 0 to 90°, on natural numbers: never falling, its step, its slope from below, and sine² + cosine². Each follows from what is known
+-- of one minute (Minute.antt), of the arc over it (Arc.antt) and of the table. Assumes nothing.
 use mathlib.Core.Path.{_≡_, refl, sym, ap, ap₂, _∙_, subst₂}
 use mathlib.Core.Logic.{_⊎_, inl, inr}
 use Prim.Native.Nat.{ℕ, zero, suc, _+_, _-_, _*_, _/_, _%_, _<_, _≤_}
@@ -18,6 +19,7 @@ use Rattle.trig.proofs.Arc.{NearCircle, Rounded, across, up, move, near
 some : 0 < minute
 some = lit< tt
 
+-- the numerator of the sine of θ, by the minute that θ lies in
 numerator : ℕ → ℕ
 numerator θ = node (θ / minute) (minute - θ % minute) (θ % minute)
 
