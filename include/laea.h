@@ -21,9 +21,10 @@
  * and summed in whole nW.
  *
  * Accuracy. An answer is that of the whole-number steps, to the last unit; the steps themselves are
- * not the exact projection. Measured against PROJ for ETRS-LAEA, a forward answer is at most 0.09 m
- * from it in Europe, 0.13 m within 90 degrees of the centre and 0.91 m over all accepted positions;
- * an inverse answer 0.08 m, 0.19 m and 0.89 m. There and back within 90 degrees of the centre, 0.10 m.
+ * not the exact projection. Measured against PROJ for ETRS-LAEA, no forward answer was found more than
+ * 0.09 m from it in Europe, 0.13 m within 90 degrees of the centre and 0.93 m over all accepted
+ * positions; no inverse answer more than 0.09 m, 0.19 m and 0.91 m. There and back within 90 degrees of
+ * the centre, 0.11 m.
  *
  * The parameter set says which ellipsoid and which centre; see laea_set below. LAEA_ETRS_LAEA is the
  * set of ETRS89 / ETRS-LAEA (EPSG 3035).

@@ -120,9 +120,9 @@ static int print_table(const char *name, Measure *measure, const Row *rows, int 
 
 int main(void)
 {
-    static const Row FORWARD[] = {{&EUROPE, 0.09, 0.03}, {&HALF_GLOBE, 0.13, 0.04}, {&ACCEPTED, 1, 0.07}};
-    static const Row INVERSE[] = {{&EUROPE, 0.08, 0.035}, {&HALF_GLOBE, 0.19, 0.055}, {&ACCEPTED, 1, 0.12}};
-    static const Row RETURN[] = {{&EUROPE, 0.075, 0.022}, {&HALF_GLOBE, 0.11, 0.03}, {&ACCEPTED, 10, 0.2}};
+    static const Row FORWARD[] = {{&EUROPE, 0.1, 0.03}, {&HALF_GLOBE, 0.13, 0.04}, {&ACCEPTED, 1, 0.07}};
+    static const Row INVERSE[] = {{&EUROPE, 0.1, 0.035}, {&HALF_GLOBE, 0.2, 0.055}, {&ACCEPTED, 1, 0.12}};
+    static const Row RETURN[] = {{&EUROPE, 0.075, 0.022}, {&HALF_GLOBE, 0.12, 0.03}, {&ACCEPTED, 10, 0.2}};
     static const Row LATITUDE[] = {{&HALF_GLOBE, 4, 0.7}};
     static const Row LONGITUDE[] = {{&HALF_GLOBE, 3, 0.7}};
     int good = 1;

@@ -34,8 +34,8 @@
 //! Each answer is that of the papers' whole-number steps, to the last unit. These steps count sines
 //! in billionths and angles in milliarcseconds, and what they round adds up: of ETRS-LAEA an answer
 //! lies up to 0.09 m from the exact projection in Europe, 0.19 m in the half of the globe around the
-//! centre and 0.91 m where it is farthest, as measured against PROJ; the README of the repository
-//! says more.
+//! centre and 0.93 m where it is farthest, as far as was found by measuring against PROJ; the README
+//! of the repository says more.
 //!
 //! # Calls
 //!
