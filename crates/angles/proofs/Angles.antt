@@ -4,7 +4,7 @@ use mathlib.Core.Path.{_≡_, refl, sym, ap, ap₂, _∙_}
 use mathlib.Core.Bool.{Bool, true, false, _&&_}
 use mathlib.Core.List.{List}
 use Prim.Native.Nat.{ℕ, zero, suc, _+_, _-_, _*_, _<_, _≤_, zero-le}
-use native.Mathlib.Nat.{le-trans, mul-le-mul-right}
+use native.Mathlib.Nat.{le-trans, mul-le-mul, mul-le-mul-right}
 use native.Mathlib.Omega.{arith}
 use lib.Dec.{leb, eqb}
 use lib.IntN.{ℤ, pos, _*ℤ_}
@@ -13,11 +13,17 @@ use borrow.Author.Tests.{le-leb, leb-true, eq-eqb, ne-eqb}
 use Rattle.integers.specs.Greatest.{greatest}
 use Rattle.integers.proofs.Greatest.{Falls, greatest-edge}
 use Rattle.integers.proofs.Search.{Threshold}
-use Rattle.units.specs.Units.{right-angle}
+use Rattle.units.specs.Units.{unit, right-angle}
 use Rattle.trig.specs.Sine.{first-quarter}
-use Rattle.angles.specs.Angle.{under, angle, Searchable}
-use Rattle.trig.proofs.Quarter.{quarter-mono, quarter-zero}
+use Rattle.angles.specs.Angle.{under, angle, angle-limit, Searchable}
+use Rattle.trig.proofs.Quarter.{quarter-at-most, quarter-mono, quarter-zero}
 use Rattle.trig.proofs.Symmetry.{sine-first, cosine-first}
+
+-- a sine is at most U, so its product with p or q is within 64 bits
+pub product-small : (s θ p : ℕ) → s ≡ first-quarter θ → θ ≤ right-angle → p ≤ angle-limit → s * p ≤ unit * angle-limit
+product-small s θ p e h l =
+    let small : s ≤ unit = omega (arith, quarter-at-most h) in
+    mul-le-mul small l
 
 pub under-is : (p q θ : ℕ) → θ ≤ right-angle → under p q θ ≡ leb (first-quarter θ * p) (first-quarter (right-angle - θ) * q)
 unfolding under

@@ -1,1 +1,2 @@
 pub mod Angles
+pub mod OneTest

@@ -1,2 +1,3 @@
 pub mod Angle
+pub mod Trial
 pub mod Estimate

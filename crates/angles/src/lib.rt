@@ -7,6 +7,8 @@ use sine_table::Table;
 use trig::QUARTER_MINUTES;
 use trig::first_quarter;
 use trig::minute_sine;
+use trig::quarter_pair;
+use trig::rise;
 use units::MINUTE;
 use units::RIGHT_ANGLE;
 ghost use mathlib.Core.Path.{_≡_};
@@ -18,6 +20,7 @@ ghost use Rattle.units.specs.Units.{right-angle};
 ghost use Rattle.trig.specs.Sine.{quarter-minutes};
 ghost use Rattle.angles.specs.Estimate.{whole-part, part-limit};
 ghost use Rattle.angles.specs.Angle.{under, angle, angle-limit, Searchable};
+ghost use Rattle.angles.specs.Trial.{over, Settles};
 
 // Whether sine(θ)·p is not above cosine(θ)·q.
 fn is_under(t: &Table, p: u64, q: u64, theta: u64) -> bool
@@ -70,6 +73,47 @@ fn search_near(t: &Table, p: u64, q: u64, estimate: u64, margin: u64) -> u64
         return search(t, p, q, low, high);
     }
     search_near(t, p, q, estimate, WIDENING * margin + FIRST_MARGIN)
+}
+
+// What one test at an angle tells.
+pub enum Trial {
+    // the greatest angle that is under
+    Settled(u64),
+    // nothing
+    Open,
+}
+
+// 1 where s is above c, else 0.
+fn over(s: u64, c: u64) -> u64
+    ensures { λ r. ⌜ r ≡ over s c ⌝ }
+{
+    if s <= c { 0 } else { 1 }
+}
+
+// One part in SLACK_PARTS of p + q is more than the bend of sine and cosine in a minute takes.
+const SLACK_PARTS: u64 = 1_024;
+
+// One test at theta, inside minute k. From mas to mas of a minute cosine(θ)·q − sine(θ)·p falls by `fall`, less
+// p + q for the roundings of sine and cosine and less a little for their bend. Where it is nearer to 0 at theta
+// than that, it is 0 or more at theta or at the mas before, and below 0 at the next.
+fn settle(t: &Table, p: u64, q: u64, theta: u64) -> Trial
+    requires { ⌜ Searchable (now t) p q × (theta ≤ right-angle) ⌝ }
+    ensures { λ r. ⌜ Settles p q r ⌝ }
+{
+    let k = theta / MINUTE;
+    let r = theta % MINUTE;
+    if r == 0 {
+        return Trial::Open;
+    }
+    let at = quarter_pair(t, k, r);
+    let s = at.sine * p;
+    let c = at.cosine * q;
+    let fall = (rise(t, k) * p + rise(t, QUARTER_MINUTES - 1 - k) * q) / MINUTE;
+    let slack = p + q + (p + q) / SLACK_PARTS;
+    if fall <= excess(c, s) + excess(s, c) + slack {
+        return Trial::Open;
+    }
+    Trial::Settled(theta - over(s, c))
 }
 
 // Tangents from 0 to 1 are counted in parts of 2^14.
@@ -125,10 +169,7 @@ const RADIAN: u64 = 206_264_806;
 
 const TEN_MINUTES: u64 = 600_000;
 
-// The estimate adds 1/FIT of a mas: fitted to the sine, so that it misses about the fewest angles.
-const FIT: u64 = 32;
-
-// angle(p, q), mostly to the mas where p or q is large. The part of it past minute k has the tangent
+// angle(p, q) to the nearest mas, mostly, where p or q is large. The part of it past minute k has the tangent
 // (cosine(k)·q − sine(k)·p)/(cosine(k)·p + sine(k)·q). Ten minutes are added on the way, so that
 // nothing is negative. Nothing rests on its precision.
 fn estimate(t: &Table, p: u64, q: u64) -> u64
@@ -139,7 +180,7 @@ fn estimate(t: &Table, p: u64, q: u64) -> u64
     let s = minute_sine(t, k);
     let c = minute_sine(t, QUARTER_MINUTES - k);
     let mas = c * p / RADIAN + s * q / RADIAN + 1;
-    let theta = MINUTE * k + excess(c * q + TEN_MINUTES * mas + mas / FIT, s * p) / mas;
+    let theta = MINUTE * k + excess(c * q + TEN_MINUTES * mas + mas / 2, s * p) / mas;
     RIGHT_ANGLE - excess(RIGHT_ANGLE, excess(theta, TEN_MINUTES))
 }
 
@@ -152,5 +193,10 @@ pub fn angle(t: &Table, p: u64, q: u64) -> u64
     if p + q == 0 {
         return 0;
     }
-    search_near(t, p, q, estimate(t, p, q), 0)
+    let theta = estimate(t, p, q);
+    let tried = settle(t, p, q, theta);
+    match tried {
+        Trial::Settled(at) => search(t, p, q, at, at),
+        Trial::Open => search_near(t, p, q, theta, 1),
+    }
 }

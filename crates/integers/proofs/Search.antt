@@ -2,18 +2,18 @@
 -- By halves: where the middle passes, the upper half holds the greatest; where it fails, all above it fail and the lower half holds it.
 -- Either half is shorter. About an estimate: a span that does not hold the greatest is not all of 0 to n, so its margin is below n, and the
 -- wider margin leaves less of n. Assumes nothing.
-use mathlib.Core.Path.{_≡_, refl, sym, ap, _∙_}
+use mathlib.Core.Path.{_≡_, refl, sym, ap, _∙_, subst}
 use mathlib.Core.Bool.{Bool, true, false, not}
 use mathlib.Core.Logic.{_⊎_, inl, inr}
 use Prim.Native.Nat.{ℕ, _+_, _-_, _*_, _/_, _<_, _≤_}
-use native.Mathlib.Nat.{le-trans}
+use native.Mathlib.Nat.{le-refl, le-trans}
 use native.Mathlib.Omega.{arith}
 use lib.Dec.{leb}
 use borrow.Author.Tests.{leb-true, leb-false, le-leb, lt-leb, not-true, not-false}
 use Rattle.proof_kit.proofs.Order.{le-or-lt}
 use Rattle.integers.specs.Greatest.{greatest, bracketed}
 use Rattle.integers.specs.Search.{Span, About}
-use Rattle.integers.proofs.Greatest.{Falls, both, not-both, not-true as fails, greatest-le, greatest-passes, greatest-ge, greatest-skip}
+use Rattle.integers.proofs.Greatest.{Falls, both, not-both, not-true as fails, greatest-le, greatest-passes, greatest-here, greatest-ge, greatest-skip}
 use Rattle.integers.proofs.Greatest.{one-left, lower-half}
 
 -- a test that 0 passes and that stays false once it is false
@@ -168,3 +168,19 @@ module _ {Given : Type 0} {n estimate margin t : ℕ} (asked : (n - margin ≡ t
       wider-asked grows stays =
           let below = margin-below in
           (omega (arith, asked .0), (asked .1 .0, record { estimate-most = asked .1 .1 .estimate-most; margin-most = stays below }))
+
+-- ---- a span of one: the greatest itself, once it is settled
+
+module _
+    {Given : Type 0} {test : ℕ → Bool} {n m : ℕ}
+    (given : Given)
+    (threshold : Given → Threshold test n)
+    (settled : greatest test n ≡ m) where
+  settled-passes : test m ≡ true
+  settled-passes = subst (λ (k : ℕ). test k ≡ true) settled (greatest-passes test (threshold given .zero-passes) n)
+
+  pub one-asked : Given × Span test n m m
+  one-asked = (given, record { ordered = le-refl m; high-most = subst (λ (k : ℕ). k ≤ n) settled (greatest-le test n); low-passes = settled-passes })
+
+  pub one-same : greatest test m ≡ greatest test n
+  one-same = greatest-here test m settled-passes ∙ sym settled

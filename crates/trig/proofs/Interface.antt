@@ -20,6 +20,7 @@ use Rattle.trig.proofs.Quarter.{quarter-zero, quarter-right}
 use Rattle.trig.proofs.Symmetry.{sine-first, cosine-first, sine-upper}
 pub use Rattle.trig.proofs.Symmetry.{sine-odd, sine-supplement, sine-half-turn, sine-full-turn, sine-quarter-turn}
 pub use Rattle.trig.proofs.Symmetry.{cosine-quarter-turn, cosine-even, cosine-complement}
+use Rattle.trig.proofs.Folding.{neg-gap}
 use Rattle.trig.proofs.Turns.{bounded}
 
 -- ---- range
@@ -59,11 +60,6 @@ steps-base θ h =
 
 swap : (t : ℤ) → t +ℤ pos right-angle +ℤ pos 1 ≡ t +ℤ pos 1 +ℤ pos right-angle
 swap t = ring (t ∷ []) (search quote depth 40 fits 20000) tt
-
-neg-gap : (x y : ℤ) → natAbs (negℤ x -ℤ negℤ y) ≡ natAbs (x -ℤ y)
-neg-gap x y =
-    let e : negℤ x -ℤ negℤ y ≡ negℤ (x -ℤ y) = ring (x ∷ y ∷ []) (search quote depth 40 fits 20000) tt in
-    ap natAbs e ∙ abs-neg (x -ℤ y)
 
 steps : (t : ℤ) → (natAbs (sine (t +ℤ pos 1) -ℤ sine t) ≤ 5) × (natAbs (cosine (t +ℤ pos 1) -ℤ cosine t) ≤ 5)
 steps =

@@ -16,6 +16,7 @@ use Rattle.units.specs.Units.{minute}
 use Rattle.sine_table.specs.Table.{entry}
 use Rattle.sine_table.proofs.Laws.{curve, fine, rises, bent-back}
 use Rattle.trig.specs.Sine.{fraction-numerator, fraction-denominator, between, AtMostNext}
+use Rattle.trig.specs.Correction.{rise-of}
 
 -- the denominator of the sine in a minute, an eighth of the paper's; and what the numerator gains in a mas where the entries differ by 1
 abbrev pub scale : ℕ
@@ -27,12 +28,9 @@ per-mas = fine * minute
 pub some-scale : 0 < scale
 some-scale = lit< tt
 
-unfoldable pub gap : ℕ → ℕ
-gap k = entry (suc k) - entry k
-
 -- what the sine has risen r mas past minute k, which is q mas before the next
 unfoldable pub rise : (k q r : ℕ) → ℕ
-rise k q r = gap k * r * per-mas + curve * (entry k * (r * q))
+rise k q r = rise-of k * r * per-mas + curve * (entry k * (r * q))
 
 -- the numerator of that sine
 unfoldable pub node : (k q r : ℕ) → ℕ
@@ -49,7 +47,7 @@ eighth n =
     (omega (arith, nearest-low n some-scale)) (omega (arith, nearest-high n some-scale))
 
 fraction-near : (k r : ℕ) → entry k + nearest (fraction-numerator k r) fraction-denominator ≡ nearest (node k (minute - r) r) scale
-unfolding fraction-numerator node rise gap
+unfolding fraction-numerator node rise rise-of
 fraction-near k r =
     let eight : fraction-numerator k r ≡ 8 * rise k (minute - r) r = omega arith in
     let turned : node k (minute - r) r ≡ rise k (minute - r) r + entry k * scale = omega arith in
@@ -65,8 +63,8 @@ pub record Inside (k q r : ℕ) : Type 0 where
   pub below : k < 5400
 
 -- seen from the next entry: the straight line ends there, and the correction's part has q in it
-from-next : (k q r : ℕ) → Inside k q r → node k q r + q * (per-mas * gap k) ≡ entry (suc k) * scale + q * (r * (curve * entry k))
-unfolding node rise gap
+from-next : (k q r : ℕ) → Inside k q r → node k q r + q * (per-mas * rise-of k) ≡ entry (suc k) * scale + q * (r * (curve * entry k))
+unfolding node rise rise-of
 from-next k q r i = both (entry k) (entry (suc k) - entry k) (entry (suc k)) (omega (arith, rises k (i .below)))
   where
     both :
@@ -77,7 +75,7 @@ from-next k q r i = both (entry k) (entry (suc k) - entry k) (entry (suc k)) (om
 
 -- the sine never passes the next entry: its numerator is less than a half beyond it
 under-next : (k q r : ℕ) → Inside k q r → 2 * node k q r < 2 * (entry (suc k) * scale) + scale
-unfolding gap
+unfolding rise-of
 under-next k q r i =
     little (entry k) (entry (suc k) - entry k) (node k q r) (entry (suc k)) (bent-back k (i .below)) (from-next k q r i)
   where
@@ -116,16 +114,16 @@ between-near k r early below = at (eqb r 0) refl
 
 -- the end of a minute is the start of the next
 pub node-end : (k : ℕ) → k < 5400 → node k 0 minute ≡ node (suc k) minute 0
-unfolding node rise gap
+unfolding node rise rise-of
 node-end k h = omega (arith, rises k h)
 
 -- the numerator's step: that of the straight line, and the correction's, which is less by two curves at each mas
 pub node-step :
     (k q r : ℕ) →
     q + suc r ≡ minute →
-    node k q (suc r) + curve * entry k * (2 * r + 1) ≡ node k (suc q) r + per-mas * gap k + curve * entry k * minute
+    node k q (suc r) + curve * entry k * (2 * r + 1) ≡ node k (suc q) r + per-mas * rise-of k + curve * entry k * minute
 unfolding node rise
-node-step k q r whole = rw (← whole) (at (entry k) (gap k))
+node-step k q r whole = rw (← whole) (at (entry k) (rise-of k))
   where
     at : (s e : ℕ) →
         s * scale + (e * suc r * per-mas + curve * (s * (suc r * q))) + curve * s * (2 * r + 1)
@@ -140,19 +138,19 @@ module _ (k q r : ℕ) (whole : q + suc r ≡ minute) (below : k < 5400) where
   end : Inside k q (suc r)
   end = record { whole = whole; below = below }
 
-  past-next : per-mas * gap k ≤ curve * entry k * suc r → entry (suc k) * scale ≤ node k q (suc r)
+  past-next : per-mas * rise-of k ≤ curve * entry k * suc r → entry (suc k) * scale ≤ node k q (suc r)
   past-next steep = omega (arith, from-next k q (suc r) end, mul-le-mul-left q steep)
 
   pub rounded-rise : nearest (node k (suc q) r) scale ≤ nearest (node k q (suc r)) scale
-  rounded-rise = at (le-or-lt (curve * entry k * (2 * r + 1)) (per-mas * gap k + curve * entry k * minute))
+  rounded-rise = at (le-or-lt (curve * entry k * (2 * r + 1)) (per-mas * rise-of k + curve * entry k * minute))
     where
       at :
-          (curve * entry k * (2 * r + 1) ≤ per-mas * gap k + curve * entry k * minute)
-          ⊎ (per-mas * gap k + curve * entry k * minute < curve * entry k * (2 * r + 1)) →
+          (curve * entry k * (2 * r + 1) ≤ per-mas * rise-of k + curve * entry k * minute)
+          ⊎ (per-mas * rise-of k + curve * entry k * minute < curve * entry k * (2 * r + 1)) →
           nearest (node k (suc q) r) scale ≤ nearest (node k q (suc r)) scale
       at (inl rising) = nearest-mono scale some-scale (omega (arith, node-step k q r whole))
       at (inr falling) =
           let last : 2 * r + 1 ≤ suc r + minute = omega (arith, whole) in
-          let steep : per-mas * gap k ≤ curve * entry k * suc r = omega (arith, mul-le-mul-left (curve * entry k) last) in
+          let steep : per-mas * rise-of k ≤ curve * entry k * suc r = omega (arith, mul-le-mul-left (curve * entry k) last) in
           let reached = nearest-mono scale some-scale (past-next steep) in
           omega (arith, rounded-at-most k (suc q) r start, reached, nearest-whole (entry (suc k)) scale some-scale)

@@ -13,7 +13,8 @@ use Rattle.units.specs.Units.{unit, minute, right-angle}
 use Rattle.sine_table.specs.Table.{entry}
 use Rattle.sine_table.proofs.Laws.{curve, rises, step, slope, Arc, arc, OnCircle, circle, entry-at-most, entry-zero, entry-last}
 use Rattle.trig.specs.Sine.{between, first-quarter}
-use Rattle.trig.proofs.Minute.{scale, per-mas, some-scale, gap, rise, node, Inside, between-near, node-end, node-step, rounded-rise}
+use Rattle.trig.specs.Correction.{rise-of}
+use Rattle.trig.proofs.Minute.{scale, per-mas, some-scale, rise, node, Inside, between-near, node-end, node-step, rounded-rise}
 use Rattle.trig.proofs.Arc.{NearCircle, Rounded, across, up, move, near-radius, rounded-circle}
 
 some : 0 < minute
@@ -99,7 +100,7 @@ quarter-mono {a} {b} h l =
 
 -- the numerator's step is at most that at the start of its minute
 step-most : (θ : ℕ) → θ < right-angle → numerator (suc θ) ≤ numerator θ + per-mas * 295_000
-unfolding gap
+unfolding rise-of
 step-most θ h =
     let p = place θ h in
     omega (arith, here θ p, after θ p, node-step (p .k) (p .q) (p .r) (p .whole), step (p .k) (p .inside))
@@ -108,6 +109,27 @@ pub quarter-step : (θ : ℕ) → θ < right-angle → first-quarter (suc θ) �
 quarter-step θ h =
     rw (quarter-near θ (omega arith), quarter-near (suc θ) h)
     (omega (arith, step-most θ h, nearest-low (numerator (suc θ)) some-scale, nearest-high (numerator θ) some-scale))
+
+-- The numerator's step is at least that at the end of its minute, and the roundings take 1 away: the sine rises by the rise of its minute over
+-- 60,000, less 1 and a little.
+step-by-rise : (θ : ℕ) → θ < right-angle → (p : Place θ) → minute * first-quarter θ + rise-of (p .k) ≤ minute * first-quarter (suc θ) + 60_042
+step-by-rise θ h p =
+    let late : 2 * p .r + 1 ≤ minute + (minute - 1) = omega (arith, p .whole) in
+    rw (quarter-near θ (omega arith), quarter-near (suc θ) h)
+    (omega (
+      arith,
+      here θ p,
+      after θ p,
+      node-step (p .k) (p .q) (p .r) (p .whole),
+      mul-le-mul-left (curve * entry (p .k)) late,
+      entry-at-most (p .k) (le-of-lt (p .inside)),
+      nearest-low (numerator θ) some-scale,
+      nearest-high (numerator (suc θ)) some-scale,
+    ))
+
+pub quarter-step-least : (θ : ℕ) → θ < right-angle → minute * first-quarter θ + rise-of (θ / minute) ≤ minute * first-quarter (suc θ) + 60_042
+unfolding place
+quarter-step-least θ h = step-by-rise θ h (place θ h)
 
 -- ---- the slope from below
 
@@ -120,7 +142,7 @@ quarter-minute k =
 -- the numerator's step is at least that at the end of its minute, which is nearly as much as the cosine at its start asks for
 step-least : (θ : ℕ) (p : Place θ) →
     unit * numerator θ + per-mas * 290_000 * entry (5400 - p .k) ≤ unit * numerator (suc θ) + per-mas * 290_000 * 600_000
-unfolding gap
+unfolding rise-of
 step-least θ p =
     let late : 2 * p .r + 1 ≤ 2 * minute = omega (arith, p .whole) in
     omega (
@@ -175,8 +197,8 @@ quarter-at-most {θ} h =
     let last : first-quarter right-angle ≡ unit = quarter-minute 5400 ∙ entry-last in
     rw last at (quarter-mono h (le-refl right-angle))
 
-gap-up : (k : ℕ) → k < 5400 → entry k + gap k ≡ entry (suc k)
-unfolding gap
+gap-up : (k : ℕ) → k < 5400 → entry k + rise-of k ≡ entry (suc k)
+unfolding rise-of
 gap-up k h = omega (arith, rises k h)
 
 -- a numerator as a point of the arc, seen from either end
@@ -197,16 +219,16 @@ module _ (k r j q : ℕ) (both : k + j ≡ 5399) (whole : q + r ≡ minute) wher
   before : 5400 - k ≡ suc j
   before = omega arith
 
-  start-on-circle : OnCircle (entry k) (entry j + gap j)
+  start-on-circle : OnCircle (entry k) (entry j + rise-of j)
   start-on-circle = rw (gap-up j j-inside) (rw before at (circle k (le-of-lt k-inside)))
 
-  end-on-circle : OnCircle (entry k + gap k) (entry j)
+  end-on-circle : OnCircle (entry k + rise-of k) (entry j)
   end-on-circle =
       let e : 5400 - suc k ≡ j = omega arith in
       rw (gap-up k k-inside) (rw e at (circle (suc k) k-inside))
 
-  bent : Arc (entry k) (entry k + gap k) (gap k) (entry j + gap j) (entry j) (gap j)
-  unfolding gap
+  bent : Arc (entry k) (entry k + rise-of k) (rise-of k) (entry j + rise-of j) (entry j) (rise-of j)
+  unfolding rise-of
   bent =
       let f : 5399 - k ≡ j = omega arith in
       rw (gap-up k k-inside, gap-up j j-inside) (rw f at (rw before at (arc k k-inside)))
@@ -221,10 +243,10 @@ module _ (k r j q : ℕ) (both : k + j ≡ 5399) (whole : q + r ≡ minute) wher
   unfolding node rise across up move
   inner-circle =
       rounded-circle per-mas _ _ (first-quarter (k * minute + r)) (first-quarter (j * minute + q)) (lit< tt)
-      (near-radius q r (entry k) (gap k) (entry j) (gap j) whole start-on-circle end-on-circle bent small per-mas refl)
-      (rw (from-start q r (entry k) (gap k) whole) at
+      (near-radius q r (entry k) (rise-of k) (entry j) (rise-of j) whole start-on-circle end-on-circle bent small per-mas refl)
+      (rw (from-start q r (entry k) (rise-of k) whole) at
       (within (k * minute + r) k q r (omega arith) refl (record { whole = whole; below = k-inside })))
-      (rw (from-end q r (entry j) (gap j) whole) at
+      (rw (from-end q r (entry j) (rise-of j) whole) at
       (within (j * minute + q) j r q (omega arith) refl (record { whole = omega arith; below = j-inside })))
 
 pub quarter-circle : (θ : ℕ) → θ ≤ right-angle → NearCircle (first-quarter θ) (first-quarter (right-angle - θ))

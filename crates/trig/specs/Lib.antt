@@ -1,2 +1,4 @@
 pub mod Sine
 pub mod Correction
+pub mod Folding
+pub mod Lines

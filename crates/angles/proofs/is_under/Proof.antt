@@ -1,23 +1,14 @@
 -- `trig::is_under` meets its contract: from 0 to 90° sine and cosine are those of the first quarter, so the code compares what the
 -- definition does. Neither is above U, and with p and q up to their limit both products are within 64 bits. Assumes nothing.
 use borrow.Author.Needs.{needs}
-use mathlib.Core.Path.{_≡_, sym, ap₂, _∙_}
-use Prim.Native.Nat.{ℕ, _*_, _-_, _≤_, _<_, _^_}
-use native.Mathlib.Nat.{mul-le-mul}
+use mathlib.Core.Path.{sym, ap₂, _∙_}
+use Prim.Native.Nat.{ℕ, _*_, _-_}
 use native.Mathlib.Omega.{arith}
 use lib.Dec.{leb}
-use Rattle.units.specs.Units.{unit, right-angle}
-use Rattle.trig.specs.Sine.{first-quarter}
-use Rattle.angles.specs.Angle.{angle-limit}
-use Rattle.trig.proofs.Quarter.{quarter-at-most}
-use Rattle.angles.proofs.Angles.{under-is}
+use Rattle.units.specs.Units.{right-angle}
+use Rattle.angles.proofs.Angles.{under-is, product-small}
 use Rattle.angles.proofs.is_under.Statement.{statement}
 use Rattle.angles.proofs.is_under.Tie as tie
-
-product-fits : (s θ p : ℕ) → s ≡ first-quarter θ → θ ≤ right-angle → p ≤ angle-limit → s * p < 2 ^ 64
-product-fits s θ p e h l =
-    let small : s ≤ unit = omega (arith, quarter-at-most h) in
-    omega (arith, mul-le-mul small l)
 
 first-quarter-requires : tie.Need-first-quarter-requires
 first-quarter-requires c κs = search needs
@@ -26,7 +17,7 @@ mul-result : tie.Need-mul-result
 mul-result c =
     let start = c .before in
     let s = c .first-quarter in
-    record { fits = product-fits (s .result) (start .args .theta) (start .args .p) (s .ensures) (start .pre .1) (start .pre .0 .p-size) }
+    record { fits = omega (arith, product-small (s .result) (start .args .theta) (start .args .p) (s .ensures) (start .pre .1) (start .pre .0 .p-size)) }
 
 sub-first-quarter : tie.Need-sub-first-quarter
 sub-first-quarter c = search needs
@@ -39,7 +30,7 @@ mul-result-2 c =
     let start = c .before .before in
     let s = c .first-quarter2 in
     let complement = right-angle - start .args .theta in
-    record { fits = product-fits (s .result) complement (start .args .q) (s .ensures) (omega arith) (start .pre .0 .q-size) }
+    record { fits = omega (arith, product-small (s .result) complement (start .args .q) (s .ensures) (omega arith) (start .pre .0 .q-size)) }
 
 returns : tie.Need-returns
 returns c =
