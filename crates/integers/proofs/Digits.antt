@@ -1,12 +1,17 @@
 -- The root by its binary digits from the highest on. Where the digits taken so far are worth z and those that are left are worth less than w, the
 -- root lies from z to z + w − 1, and the next digit is worth w/2. It is taken where the square of z + w/2, which is z² + z·w + w²/4, is at
 -- most n. Assumes nothing.
-use mathlib.Core.Path.{_≡_, sym}
+use mathlib.Core.Path.{_≡_, refl, sym, subst}
+use mathlib.Core.Bool.{Bool, true, false, cond}
 use Prim.Native.Nat.{ℕ, zero, suc, _+_, _*_, _/_, _^_, _<_, _≤_}
-use native.Mathlib.Nat.{mul-pos, pow-succ'}
+use native.Mathlib.Nat.{mul-pos, pow-succ', zero-add}
 use native.Mathlib.Omega.{arith}
+use lib.Dec.{leb}
 use lib.Pow.{pow-pos}
+use borrow.Author.Tests.{leb-true, leb-false}
+use Rattle.integers.specs.declared.TakenDigits.{TakenDigits}
 use Rattle.integers.specs.Root.{root}
+use Rattle.integers.specs.Rounds.{nextDigit}
 use Rattle.integers.proofs.Squares.{root-is, square-mono}
 
 -- What the code holds of z and w: `bit` is the square of w/2, and 0 once w is 1 and no digit is left; `trial` is the square of z + w/2 till then.
@@ -119,3 +124,28 @@ module _ (n bit square r trial : ℕ) where
     where
       is-z : (z : ℕ) → Digits n 1 z bit square r trial → r ≡ z
       is-z z d = omega (arith, d .r-is)
+
+-- ---- where the trial square is worked out in each round
+
+abbrev pub DigitsTried : ℕ → ℕ → TakenDigits → Type 0
+DigitsTried n bit d = Tried n bit (d .square) (d .r) (d .square + d .r + bit)
+
+pub no-digits-tried : (n k bit : ℕ) → bit ≡ 2 ^ k * 2 ^ k / 4 → n < 2 ^ k * 2 ^ k → 2 ^ k ≤ 2 ^ 32 → DigitsTried n bit (record { square = 0; r = 0 })
+no-digits-tried n k bit b h small = rw (zero-add bit) (none-tried n k bit b h small)
+
+pub next-tried : (n bit : ℕ) (d : TakenDigits) → 0 < bit → DigitsTried n bit d → DigitsTried n (bit / 4) (nextDigit n bit d)
+unfolding nextDigit
+next-tried n bit d some t = at (leb trial n) refl
+  where
+    trial : ℕ
+    trial = d .square + d .r + bit
+
+    at :
+        (b : Bool) →
+        leb trial n ≡ b →
+        DigitsTried n (bit / 4) (cond b (record { square = trial; r = d .r / 2 + bit }) (record { square = d .square; r = d .r / 2 }))
+    at true e =
+        let same : trial + bit + d .r / 2 + bit / 4 ≡ trial + (d .r / 2 + bit) + bit / 4 = omega arith in
+        subst (λ (x : ℕ). Tried n (bit / 4) trial (d .r / 2 + bit) x) same
+        (next-taken n bit (d .square) (d .r) trial some (leb-true trial n e) t)
+    at false e = next-not-taken n bit (d .square) (d .r) trial some (leb-false trial n e) t

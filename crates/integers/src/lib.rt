@@ -4,6 +4,7 @@ ghost use Prim.Native.Nat.{_+_, _-_, _/_, _<_, _^_};
 ghost use lib.IntN.{natAbs};
 ghost use Rattle.integers.specs.Near.{near, nearest, signed};
 ghost use Rattle.integers.specs.Root.{root};
+ghost use Rattle.integers.specs.Rounds.{nextDigit};
 
 // A search about an estimate: the margin that is tried after another is WIDENING times it and FIRST_MARGIN more.
 pub const WIDENING: u64 = 16;
@@ -84,4 +85,60 @@ pub fn root(n: u64) -> u64
         bit = next;
     }
     r
+}
+
+// Two roots.
+pub struct RootPair {
+    pub first: u64,
+    pub second: u64,
+}
+
+// What `root` holds of the digits taken, but for the trial square, which is square + r + bit.
+struct TakenDigits {
+    square: u64,
+    r: u64,
+}
+
+// One round for n: the digit that `bit` is the square of is taken where the trial square is at most n.
+fn next_digit(n: u64, bit: u64, d: TakenDigits) -> TakenDigits
+    requires { ⌜ d .square + d .r + bit < 2 ^ 64 ⌝ }
+    ensures { λ r. ⌜ r ≡ nextDigit n bit d ⌝ }
+{
+    let trial = d.square + d.r + bit;
+    let half = d.r >> 1;
+    if trial <= n {
+        TakenDigits {
+            square: trial,
+            r: half + bit,
+        }
+    } else {
+        TakenDigits {
+            square: d.square,
+            r: half,
+        }
+    }
+}
+
+// root(n) and root(m), digit by digit as `root` finds one, in one loop: neither waits for the other's
+// comparisons. The larger number says how many rounds there are.
+pub fn roots(n: u64, m: u64) -> RootPair
+    ensures { λ r. ⌜ (r .first ≡ root n) × (r .second ≡ root m) ⌝ }
+{
+    let larger = if n < m { m } else { n };
+    let mut bit = if larger < 1u64 << 60 {
+        1 << 58
+    } else {
+        1 << 62
+    };
+    let mut first = TakenDigits { square: 0, r: 0 };
+    let mut second = TakenDigits { square: 0, r: 0 };
+    while bit != 0 {
+        first = next_digit(n, bit, first);
+        second = next_digit(m, bit, second);
+        bit = bit >> 2;
+    }
+    RootPair {
+        first: first.r,
+        second: second.r,
+    }
 }
