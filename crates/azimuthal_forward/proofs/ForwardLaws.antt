@@ -1,16 +1,20 @@
 -- Laws of the forward steps: how large each of them is.
 -- Assumes nothing.
-use mathlib.Core.Path.{_≡_}
+use mathlib.Core.Path.{_≡_, ap, _∙_}
 use mathlib.Core.Bool.{true}
-use Prim.Native.Nat.{_<_, _≤_}
+use Prim.Native.Nat.{ℕ, _<_, _≤_}
 use native.Mathlib.Nat.{le-refl}
 use native.Mathlib.Omega.{arith}
 use lib.Dec.{lit<}
 use lib.IntN.{ℤ, pos, natAbs, _+ℤ_, _-ℤ_, _*ℤ_}
 use lib.Signed.{_≤ℤ_}
+use mir.Syntax.{w64}
+use mir.Val.{SFits}
+use mir.Facts.{toZ-ofZ}
 use Rattle.proof_kit.proofs.Size.{abs-mul, abs-mul-le, abs-add-le, abs-sub-le}
 use Rattle.proof_kit.proofs.Order.{order, pos-abs, pos-≤, ≤ℤ-trans}
 use Rattle.integers.specs.Near.{near}
+use Rattle.integers.specs.Root.{root}
 use Rattle.integers.proofs.Rounding.{near-at-most}
 use Rattle.integers.proofs.Squares.{root-least, root-most}
 use Rattle.integers.proofs.Greatest.{both}
@@ -23,6 +27,7 @@ use Rattle.latitudes.specs.declared.Geodetic.{Geodetic}
 use Rattle.latitudes.specs.Latitude.{beta}
 use Rattle.constants.specs.declared.Constants.{Constants}
 use Rattle.constants.specs.Derived.{BoundedCentre}
+use Rattle.billionths.proofs.Calls.{back}
 use Rattle.azimuthal_forward.specs.Steps.{H, b, c, u, v, w, G}
 use Rattle.azimuthal_forward.specs.Answer.{on-globe}
 
@@ -83,6 +88,11 @@ H-least g h =
 pub H-most : (g : ℤ) → natAbs g ≤ 4_000_000_000 → H g ≤ 1_500_000_000
 unfolding H
 H-most g h = root-most (natAbs (g *ℤ pos 500_000_000)) 1_500_000_000 (rw (abs-mul g (pos 500_000_000)) (omega arith))
+
+-- in the code: r is the root of the number n that was worked out for g
+pub scale-is : {r n : ℕ} {g : ℤ} → r ≡ root n → n ≡ natAbs (back g *ℤ pos 500_000_000) → SFits w64 g → r ≡ H g
+unfolding H
+scale-is is number fits = is ∙ ap root (number ∙ ap (λ (z : ℤ). natAbs (z *ℤ pos 500_000_000)) (toZ-ofZ fits))
 
 -- ---- a position within ±90° and ±180°
 

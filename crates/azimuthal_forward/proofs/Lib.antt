@@ -1,2 +1,3 @@
 pub mod ForwardLaws
 pub mod AnswerLaws
+pub mod StageLaws

@@ -4,8 +4,10 @@ use billionths::product;
 use billionths::sum;
 use constants::Constants;
 use constants::constants_of;
+use integers::RootPair;
 use integers::near;
 use integers::root;
+use integers::roots;
 use latitudes::Geodetic;
 use latitudes::to_authalic;
 use parameters::Parameters;
@@ -34,11 +36,18 @@ ghost use Rattle.latitudes.specs.Latitude.{SmallSeries};
 ghost use Rattle.constants.specs.Derived.{BoundedCentre, Prepared};
 ghost use Rattle.azimuthal_forward.specs.Steps.{H as scaleOf, directionOf};
 ghost use Rattle.azimuthal_forward.specs.Answer.{on-globe, forwardOf, plane-told, forwardTold};
+ghost use Rattle.azimuthal_forward.specs.Stages.{refusedBefore, beforeRoot, AfterRoot, afterRoot};
 
 // Easting and northing in cm, or the refusal number alone.
 pub enum PlaneAnswer {
     Plane { easting: i64, northing: i64 },
     Refused(u8),
+}
+
+// The answers for two positions.
+pub struct PlaneAnswers {
+    pub first: PlaneAnswer,
+    pub second: PlaneAnswer,
 }
 
 // Where a position lies as seen from the centre: u, w and the nearness G of document 01.
@@ -48,18 +57,44 @@ pub struct Direction {
     pub g: i64,
 }
 
+// What the steps before the root H give: 3, 4 or 0, and the direction; a refused position has that of
+// the centre, so that its root can be taken with another's.
+struct BeforeRoot {
+    refusal: u8,
+    direction: Direction,
+}
+
+// The nearness of the centre, 2U.
+const CENTRE_NEARNESS: i64 = 2_000_000_000;
+
 // Half of U.
 const HALF_UNIT: i64 = 500_000_000;
 
 // A nearness below this is refused 4.
 pub const LEAST_NEARNESS: i64 = 20_000_000;
 
+// G·500,000,000, the number whose root is H.
+fn scale_square(g: i64) -> u64
+    requires { ⌜ (pos 0 ≤ℤ g) × (natAbs g ≤ 4_000_000_000) ⌝ }
+    ensures { λ r. ⌜ r ≡ natAbs (g *ℤ pos 500_000_000) ⌝ }
+{
+    (g * HALF_UNIT) as u64
+}
+
 // H = root(G·500,000,000)
 pub fn scale(g: i64) -> u64
     requires { ⌜ (pos 0 ≤ℤ g) × (natAbs g ≤ 4_000_000_000) ⌝ }
     ensures { λ r. ⌜ r ≡ scaleOf g ⌝ }
 {
-    root((g * HALF_UNIT) as u64)
+    root(scale_square(g))
+}
+
+// H for two positions.
+pub fn scales(g: i64, g2: i64) -> RootPair
+    requires { ⌜ (pos 0 ≤ℤ g) × (natAbs g ≤ 4_000_000_000) × (pos 0 ≤ℤ g2) × (natAbs g2 ≤ 4_000_000_000) ⌝ }
+    ensures { λ r. ⌜ (r .first ≡ scaleOf g) × (r .second ≡ scaleOf g2) ⌝ }
+{
+    roots(scale_square(g), scale_square(g2))
 }
 
 // The direction of a latitude and a longitude difference d.
@@ -103,23 +138,82 @@ fn coordinate(origin: i64, r: i64, x: i64, h: u64) -> i64
     origin + near(r * x, h)
 }
 
+// A refused position, by its number.
+fn refused_before(number: u8) -> BeforeRoot
+    ensures { λ r. ⌜ r ≡ refusedBefore number ⌝ }
+{
+    BeforeRoot {
+        refusal: number,
+        direction: Direction {
+            u: 0,
+            w: 0,
+            g: CENTRE_NEARNESS,
+        },
+    }
+}
+
+// The steps up to the nearness, which decides the last refusal.
+fn steps_before_root(t: &Table, p: Parameters, k: Constants, lat: Geodetic, lon: i64) -> BeforeRoot
+    requires { ⌜ Prepared (now t) p k ⌝ }
+    ensures { λ r. ⌜ r ≡ beforeRoot p lat lon ⌝ }
+{
+    if !is_on_globe(lat, lon) {
+        return refused_before(OUT_OF_LIMITS);
+    }
+    let direction = direction_of(t, k, lat, lon - p.lon0);
+    let g = direction.g;
+    if g < LEAST_NEARNESS {
+        return refused_before(TOO_FAR);
+    }
+    BeforeRoot {
+        refusal: 0,
+        direction,
+    }
+}
+
+// The steps that take the root h.
+fn steps_after_root(p: Parameters, k: Constants, before: BeforeRoot, h: u64) -> PlaneAnswer
+    requires { ⌜ AfterRoot p k (before .direction) h ⌝ }
+    ensures { λ r. ⌜ r ≡ afterRoot p k before h ⌝ }
+{
+    if before.refusal != 0 {
+        return PlaneAnswer::Refused(before.refusal);
+    }
+    let to = before.direction;
+    PlaneAnswer::Plane {
+        easting: coordinate(p.false_easting, k.rd, to.u, h),
+        northing: coordinate(p.false_northing, k.rn, to.w, h),
+    }
+}
+
 // A position with an accepted set and its constants.
 pub fn forward_point(t: &Table, p: Parameters, k: Constants, lat: Geodetic, lon: i64) -> PlaneAnswer
     requires { ⌜ Prepared (now t) p k ⌝ }
     ensures { λ r. ⌜ r ≡ forwardOf p lat lon ⌝ }
 {
-    if !is_on_globe(lat, lon) {
-        return PlaneAnswer::Refused(OUT_OF_LIMITS);
-    }
-    let to = direction_of(t, k, lat, lon - p.lon0);
-    let g = to.g;
-    if g < LEAST_NEARNESS {
-        return PlaneAnswer::Refused(TOO_FAR);
-    }
-    let h = scale(g);
-    PlaneAnswer::Plane {
-        easting: coordinate(p.false_easting, k.rd, to.u, h),
-        northing: coordinate(p.false_northing, k.rn, to.w, h),
+    let before = steps_before_root(t, p, k, lat, lon);
+    steps_after_root(p, k, before, scale(before.direction.g))
+}
+
+// Two positions, whose roots are taken together.
+pub fn forward_points(
+    t: &Table,
+    p: Parameters,
+    k: Constants,
+    lat: Geodetic,
+    lon: i64,
+    lat2: Geodetic,
+    lon2: i64,
+) -> PlaneAnswers
+    requires { ⌜ Prepared (now t) p k ⌝ }
+    ensures { λ r. ⌜ (r .first ≡ forwardOf p lat lon) × (r .second ≡ forwardOf p lat2 lon2) ⌝ }
+{
+    let before = steps_before_root(t, p, k, lat, lon);
+    let before2 = steps_before_root(t, p, k, lat2, lon2);
+    let h = scales(before.direction.g, before2.direction.g);
+    PlaneAnswers {
+        first: steps_after_root(p, k, before, h.first),
+        second: steps_after_root(p, k, before2, h.second),
     }
 }
 
