@@ -3,6 +3,7 @@
 ghost use mathlib.Core.Path.{_≡_};
 ghost use mathlib.Core.Bool.{true};
 ghost use Prim.Native.Nat.{_≤_};
+ghost use lib.Ieee.{binary64, ofInt};
 ghost use Rattle.units.specs.Units.{degree, metre};
 ghost use Rattle.floats.specs.Conversion.{wholeOf, floatOf};
 ghost use Rattle.floats.specs.Limits.{isFinite, withinLimit, latitudeLimit, longitudeLimit, planeLimit};
@@ -114,16 +115,33 @@ pub fn metres_to_cm(x: f64) -> i64
     whole_units(METRE, x)
 }
 
+// The numbers that an i32 holds.
+const I32_LEAST: i64 = -2_147_483_648;
+
+const I32_MOST: i64 = 2_147_483_647;
+
+// The double nearest to n. One that an i32 holds is a double exactly, by one instruction.
+fn double(n: i64) -> f64
+    ensures { λ r. ⌜ r ≡ ofInt binary64 n ⌝ }
+{
+    if I32_LEAST <= n {
+        if n <= I32_MOST {
+            return (n as i32) as f64;
+        }
+    }
+    std::num::nearest_i64_to_f64(n)
+}
+
 // Mas to degrees: the double nearest to n, divided once.
 pub fn mas_to_degrees(n: i64) -> f64
     ensures { λ r. ⌜ r ≡ floatOf degree n ⌝ }
 {
-    std::num::nearest_i64_to_f64(n) / MAS_IN_DEGREE
+    double(n) / MAS_IN_DEGREE
 }
 
 // Cm to metres: the double nearest to n, divided once.
 pub fn cm_to_metres(n: i64) -> f64
     ensures { λ r. ⌜ r ≡ floatOf metre n ⌝ }
 {
-    std::num::nearest_i64_to_f64(n) / CM_IN_METRE
+    double(n) / CM_IN_METRE
 }

@@ -6,12 +6,12 @@ use Rattle.floats.proofs.Quotient.{out-is}
 use Rattle.floats.proofs.cm_to_metres.Statement.{statement}
 use Rattle.floats.proofs.cm_to_metres.Tie as tie
 
-nearest-i64-to-f64-requires : tie.Need-nearest-i64-to-f64-requires
-nearest-i64-to-f64-requires c κs = search needs
+double-requires : tie.Need-double-requires
+double-requires c κs = search needs
 
 returns : tie.Need-returns
 unfolding ofBits ofInt
-returns c = out-is metre (c .before .fits .n) (c .nearest-i64-to-f64 .ensures)
+returns c = out-is metre (c .before .fits .n) (c .double .ensures)
 
 pub cm-to-metres-spec : {M : Type 1} → statement M
-cm-to-metres-spec = tie.close (tie.spec nearest-i64-to-f64-requires returns)
+cm-to-metres-spec = tie.close (tie.spec double-requires returns)

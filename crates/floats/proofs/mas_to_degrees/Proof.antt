@@ -6,12 +6,12 @@ use Rattle.floats.proofs.Quotient.{out-is}
 use Rattle.floats.proofs.mas_to_degrees.Statement.{statement}
 use Rattle.floats.proofs.mas_to_degrees.Tie as tie
 
-nearest-i64-to-f64-requires : tie.Need-nearest-i64-to-f64-requires
-nearest-i64-to-f64-requires c κs = search needs
+double-requires : tie.Need-double-requires
+double-requires c κs = search needs
 
 returns : tie.Need-returns
 unfolding ofBits ofInt
-returns c = out-is degree (c .before .fits .n) (c .nearest-i64-to-f64 .ensures)
+returns c = out-is degree (c .before .fits .n) (c .double .ensures)
 
 pub mas-to-degrees-spec : {M : Type 1} → statement M
-mas-to-degrees-spec = tie.close (tie.spec nearest-i64-to-f64-requires returns)
+mas-to-degrees-spec = tie.close (tie.spec double-requires returns)
