@@ -101,8 +101,8 @@ module _ (p : Parameters) (φ : Geodetic) (lon : ℤ) (ok : setRefusal p ≡ 0) 
     where
       at :
           (n : ℕ) →
-          afterRoot p (constantsOf p) (answered refusedBefore n (acceptedBefore p φ lon)) (H (answered refusedBefore n (acceptedBefore p φ lon) .direction .g))
-          ≡ answered Refused n (Plane (eastingOf p φ lon) (northingOf p φ lon))
+          let before = answered refusedBefore n (acceptedBefore p φ lon) in
+          afterRoot p (constantsOf p) before (H (before .direction .g)) ≡ answered Refused n (Plane (eastingOf p φ lon) (northingOf p φ lon))
       at zero = refl
       at (suc n) = refl
 

@@ -1,4 +1,5 @@
--- One round of the root by its binary digits, for a number n. `bit` is the square of what the next digit is worth. Inner: no customer's contract cites it.
+-- One round of the root by its binary digits, for a number n. `bit` is the square of what the next digit is worth. Inner: no customer's
+-- contract cites it.
 use Prim.Native.Nat.{ℕ, _+_, _/_}
 use mathlib.Core.Bool.{cond}
 use lib.Dec.{leb}

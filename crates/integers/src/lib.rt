@@ -99,7 +99,7 @@ struct TakenDigits {
     r: u64,
 }
 
-// One round for n: the digit that `bit` is the square of is taken where the trial square is at most n.
+// One round for n: the next digit is taken where the trial square is at most n.
 fn next_digit(n: u64, bit: u64, d: TakenDigits) -> TakenDigits
     requires { ⌜ d .square + d .r + bit < 2 ^ 64 ⌝ }
     ensures { λ r. ⌜ r ≡ nextDigit n bit d ⌝ }

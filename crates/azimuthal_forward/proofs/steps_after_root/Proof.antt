@@ -8,7 +8,7 @@ use lib.Signed.{mag}
 use Rattle.proof_kit.proofs.Range.{kept, returned}
 use Rattle.integers.specs.Near.{near}
 use Rattle.parameters.proofs.AcceptedSet.{accepted-fields}
-use Rattle.constants.proofs.ConstantsLaws.{sound-as}
+use Rattle.constants.proofs.ConstantsLaws.{Sound, sound-as}
 use Rattle.billionths.proofs.Calls.{back}
 use Rattle.azimuthal_forward.specs.declared.PlaneAnswer.the-variants.{Plane, Refused}
 use Rattle.azimuthal_forward.specs.Stages.{afterRoot}
@@ -43,15 +43,16 @@ called s o r x o-size r-size x-size =
       gives = λ ok is. returned ok ∙ is ∙ cc;
     }
 
+constants : (s : tie.Start) → Sound (s .args .k)
+constants s = sound-as _ _ (s .pre .set-accepted) (s .pre .constants)
+
 easting : (s : tie.Start) → Called (s .args .h) (s .args .p .«false_easting») (s .args .k .rd) (s .args .before .direction .u)
 easting s =
-    called s _ _ _ (accepted-fields _ (s .pre .set-accepted) .easting-size) (sound-as _ _ (s .pre .set-accepted) (s .pre .constants) .rd-between .most)
-    (s .pre .u-size)
+    called s _ _ _ (accepted-fields _ (s .pre .set-accepted) .easting-size) (constants s .rd-between .most) (s .pre .u-size)
 
 northing : (s : tie.Start) → Called (s .args .h) (s .args .p .«false_northing») (s .args .k .rn) (s .args .before .direction .w)
 northing s =
-    called s _ _ _ (accepted-fields _ (s .pre .set-accepted) .northing-size) (sound-as _ _ (s .pre .set-accepted) (s .pre .constants) .rn-between .most)
-    (s .pre .w-size)
+    called s _ _ _ (accepted-fields _ (s .pre .set-accepted) .northing-size) (constants s .rn-between .most) (s .pre .w-size)
 
 coordinate-requires : tie.Need-coordinate-requires
 coordinate-requires c κs = easting (start-at-told3 c) .requires
