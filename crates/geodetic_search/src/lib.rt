@@ -6,11 +6,15 @@ use integers::near;
 use latitudes::Authalic;
 use latitudes::AuthalicSeries;
 use latitudes::Geodetic;
-use latitudes::three_terms;
+use latitudes::is_safe;
+use latitudes::terms_error;
+use latitudes::three_lines;
 use latitudes::to_authalic;
+use latitudes::weighted_sum;
 use sine_table::Table;
 use units::HALF_TURN;
 use units::LATITUDE_MOST;
+ghost use mathlib.Core.Bool.{true};
 ghost use mathlib.Core.Path.{_≡_};
 ghost use Prim.Native.Nat.{_≤_};
 ghost use lib.IntN.{natAbs};
@@ -19,7 +23,7 @@ ghost use Rattle.integers.specs.Search.{Span, About};
 ghost use Rattle.sine_table.specs.Table.{IsTable};
 ghost use Rattle.units.specs.Units.{right-angle, half-turn};
 ghost use Rattle.latitudes.specs.Latitude.{SmallSeries, SmallTerms};
-ghost use Rattle.geodetic_search.specs.Reverse.{Searchable, estimate-limit, not-above, geodetic};
+ghost use Rattle.geodetic_search.specs.Reverse.{Searchable, estimate-limit, settled-error, not-above, geodetic};
 
 // Whether β of the latitude n mas from the South Pole is not above the one given.
 fn is_not_above(t: &Table, k: AuthalicSeries, beta: Authalic, n: u64) -> bool
@@ -133,8 +137,44 @@ fn estimate(t: &Table, r: ReversedSeries, beta: Authalic) -> u64
     requires { ⌜ IsTable (now t) × SmallTerms (r .k2) (r .k4) (r .k6) × (natAbs (beta .0) ≤ right-angle) ⌝ }
     ensures { λ n. ⌜ n ≤ half-turn ⌝ }
 {
-    let terms = three_terms(t, r.k2, r.k4, r.k6, beta.0);
+    let terms = three_lines(t, r.k2, r.k4, r.k6, beta.0);
     count_from_pole(beta.0 + near(terms, FINE_DIVISOR))
+}
+
+// How far the three terms by lines at a latitude are at most from the three terms there and 1 mas further
+// north.
+fn settled_error(k2: i64, k4: i64, k6: i64) -> u64
+    requires { ⌜ SmallTerms k2 k4 k6 ⌝ }
+    ensures { λ r. ⌜ r ≡ settled-error k2 k4 k6 ⌝ }
+{
+    terms_error(k2, k4, k6) + weighted_sum(k2, k4, k6, 10, 20, 30)
+}
+
+// Whether the latitude n mas from the South Pole is known to be the greatest whose β is not above the one
+// given: the terms then round to φ − β both there and 1 mas further north.
+fn is_settled(t: &Table, k: AuthalicSeries, beta: Authalic, n: u64) -> bool
+    requires { ⌜ Searchable (now t) k beta × (n ≤ half-turn) ⌝ }
+    ensures { λ r. ⌜ (r ≡ true → greatest (not-above k beta) half-turn ≡ n) ⌝ }
+{
+    let k2 = k.k2;
+    let k4 = k.k4;
+    let k6 = k.k6;
+    let phi = n as i64 - LATITUDE_MOST;
+    let about = three_lines(t, k2, k4, k6, phi);
+    is_safe(about, phi - beta.0, settled_error(k2, k4, k6))
+}
+
+// The greatest latitude whose β is not above the one given. Where the estimate is settled, the search has
+// one latitude left.
+fn greatest_latitude(t: &Table, k: AuthalicSeries, beta: Authalic) -> u64
+    requires { ⌜ Searchable (now t) k beta ⌝ }
+    ensures { λ r. ⌜ r ≡ greatest (not-above k beta) half-turn ⌝ }
+{
+    let n = estimate(t, reversed(k), beta);
+    if is_settled(t, k, beta, n) {
+        return search(t, k, beta, n, n);
+    }
+    search_near(t, k, beta, n, 0)
 }
 
 // The geodetic latitude of an authalic one: the greatest whose β is not above it.
@@ -142,6 +182,6 @@ pub fn to_geodetic(t: &Table, k: AuthalicSeries, beta: Authalic) -> Geodetic
     requires { ⌜ IsTable (now t) × SmallSeries k × (natAbs (beta .0) ≤ right-angle) ⌝ }
     ensures { λ r. ⌜ r ≡ geodetic k beta ⌝ }
 {
-    let n = search_near(t, k, beta, estimate(t, reversed(k), beta), 0);
+    let n = greatest_latitude(t, k, beta);
     Geodetic(n as i64 - LATITUDE_MOST)
 }

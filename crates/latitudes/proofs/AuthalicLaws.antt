@@ -3,14 +3,14 @@
 use mathlib.Core.Path.{_≡_, refl, ap, _∙_}
 use mathlib.Core.List.{[], _∷_}
 use Prim.Native.Nat.{ℕ, zero, suc, _+_, _*_, _<_, _≤_}
-use native.Mathlib.Nat.{le-trans}
+use native.Mathlib.Nat.{le-trans, mul-le-mul-left}
 use native.Mathlib.Omega.{arith}
 use lib.Dec.{lit<, lit≤}
 use lib.IntN.{ℤ, pos, negℤ, natAbs, _+ℤ_, _-ℤ_, _*ℤ_, +ℤ-idr}
 use lib.Signed.{_≤ℤ_, ≤ℤ-refl}
 use Rattle.proof_kit.proofs.Laws.{*ℤ-distribˡ, natAbs-parts, parts--}
 use Rattle.proof_kit.proofs.Ring.{ring, quote}
-use Rattle.proof_kit.proofs.Size.{as-size, abs-le, abs-by, abs-mul, sizes}
+use Rattle.proof_kit.proofs.Size.{as-size, abs-le, abs-from, abs-mul, sizes}
 use Rattle.proof_kit.proofs.Order.{order, le-by, le-of, pos-abs, abs-lower, abs-upper, abs-between}
 use Rattle.proof_kit.proofs.Certificate.{nonneg-gap}
 use Rattle.integers.specs.Near.{near}
@@ -21,6 +21,8 @@ use Rattle.trig.proofs.Interface.{sine-odd, sine-size, sine-change, sine-zero, 
 use Rattle.latitudes.specs.declared.Geodetic.{Geodetic}
 use Rattle.latitudes.specs.declared.AuthalicSeries.{AuthalicSeries}
 use Rattle.latitudes.specs.Latitude.{three-terms, terms, rounded, beta, SmallSeries, SmallTerms}
+use Rattle.latitudes.specs.Rounding.{weighted, terms-error}
+use Rattle.latitudes.proofs.RoundingLaws.{terms-apart, terms-error-size}
 
 some : 0 < unit
 some = lit< tt
@@ -102,6 +104,16 @@ pub three-terms-size : {k2 k4 k6 : ℤ} → SmallTerms k2 k4 k6 → (x : ℤ) �
 three-terms-size {k2} {k4} {k6} small x =
     le-trans (three-terms-at-most k2 k4 k6 x (small .k2-size) (small .k4-size) (small .k6-size)) (lit≤ tt)
 
+-- a sum that is that near the definition's
+pub three-lines-size :
+    {k2 k4 k6 : ℤ} →
+    SmallTerms k2 k4 k6 →
+    (r x : ℤ) →
+    natAbs (r -ℤ three-terms k2 k4 k6 x) ≤ terms-error k2 k4 k6 →
+    natAbs r ≤ 47_000_000 * unit
+three-lines-size {k2} {k4} {k6} small r x h =
+    omega (arith, abs-from r (three-terms k2 k4 k6 x), three-terms-size small x, terms-error-size small)
+
 terms-size : (k : AuthalicSeries) → SmallSeries k → (φ : ℤ) → natAbs (terms k (mas φ)) ≤ 692_510 * unit
 unfolding terms
 terms-size k small φ = three-terms-at-most (k .k2) (k .k4) (k .k6) φ (small .k2-size) (small .k4-size) (small .k6-size)
@@ -116,6 +128,15 @@ rounded-size k small φ = near-at-most (terms k (mas φ)) unit 692_510 some (ter
 multiple-change : (m n : ℕ) (φ : ℤ) → natAbs (sine (pos m *ℤ (φ +ℤ pos n)) -ℤ sine (pos m *ℤ φ)) ≤ 5 * (m * n)
 multiple-change m n φ = rw (*ℤ-distribˡ (pos m) φ (pos n)) (sine-change (m * n) (pos m *ℤ φ))
 
+-- so the sum of the three terms changes by that, each with its coefficient
+three-terms-change :
+    (k2 k4 k6 : ℤ) (n : ℕ) (x : ℤ) →
+    natAbs (three-terms k2 k4 k6 (x +ℤ pos n) -ℤ three-terms k2 k4 k6 x) ≤ weighted (5 * (2 * n)) (5 * (4 * n)) (5 * (6 * n)) k2 k4 k6
+three-terms-change k2 k4 k6 n x = terms-apart k2 k4 k6 _ _ _ _ _ _ (multiple-change 2 n x) (multiple-change 4 n x) (multiple-change 6 n x)
+
+pub three-terms-step : (k2 k4 k6 x : ℤ) → natAbs (three-terms k2 k4 k6 (x +ℤ pos 1) -ℤ three-terms k2 k4 k6 x) ≤ weighted 10 20 30 k2 k4 k6
+three-terms-step k2 k4 k6 x = three-terms-change k2 k4 k6 1 x
+
 terms-change :
     (k : AuthalicSeries) →
     SmallSeries k →
@@ -123,25 +144,10 @@ terms-change :
     natAbs (terms k (mas (φ +ℤ pos n)) -ℤ terms k (mas φ)) ≤ n * 7_000_000
 unfolding terms
 terms-change k small n φ =
-    sum (k .k2) _ _ (k .k4) _ _ (k .k6) _ _
-    (small .k2-size) (multiple-change 2 n φ) (small .k4-size) (multiple-change 4 n φ) (small .k6-size) (multiple-change 6 n φ)
-  where
-    split :
-        (a x x′ b y y′ c z z′ : ℤ) →
-        (a *ℤ x -ℤ b *ℤ y +ℤ c *ℤ z) -ℤ (a *ℤ x′ -ℤ b *ℤ y′ +ℤ c *ℤ z′) ≡ a *ℤ (x -ℤ x′) -ℤ b *ℤ (y -ℤ y′) +ℤ c *ℤ (z -ℤ z′)
-    split a x x′ b y y′ c z z′ = ring (a ∷ x ∷ x′ ∷ b ∷ y ∷ y′ ∷ c ∷ z ∷ z′ ∷ []) (search quote depth 40 fits 20000) tt
-
-    sum :
-        (a x x′ b y y′ c z z′ : ℤ) →
-        natAbs a ≤ 691_500 →
-        natAbs (x -ℤ x′) ≤ 5 * (2 * n) →
-        natAbs b ≤ 1_000 →
-        natAbs (y -ℤ y′) ≤ 5 * (4 * n) →
-        natAbs c ≤ 10 →
-        natAbs (z -ℤ z′) ≤ 5 * (6 * n) →
-        natAbs ((a *ℤ x -ℤ b *ℤ y +ℤ c *ℤ z) -ℤ (a *ℤ x′ -ℤ b *ℤ y′ +ℤ c *ℤ z′)) ≤ n * 7_000_000
-    sum a x x′ b y y′ c z z′ ha hx hb hy hc hz =
-        abs-by (split a x x′ b y y′ c z z′) (search sizes depth 40 fits 20000) (omega arith)
+    let two = mul-le-mul-left n (small .k2-size) in
+    let four = mul-le-mul-left n (small .k4-size) in
+    let six = mul-le-mul-left n (small .k6-size) in
+    le-trans (three-terms-change (k .k2) (k .k4) (k .k6) n φ) (omega (arith, two, four, six))
 
 -- n mas of φ are at least 0.993·n − 1 mas of β
 pub beta-slope :

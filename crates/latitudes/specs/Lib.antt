@@ -1,1 +1,2 @@
 pub mod Latitude
+pub mod Rounding

@@ -11,28 +11,28 @@ use Rattle.proof_kit.proofs.Range.{code, fits, read-size, returned}
 use Rattle.proof_kit.proofs.Size.{as-size}
 use Rattle.integers.proofs.Rounding.{near-at-most}
 use Rattle.units.specs.Units.{unit}
-use Rattle.latitudes.proofs.AuthalicLaws.{three-terms-size}
+use Rattle.latitudes.proofs.AuthalicLaws.{three-lines-size}
 use Rattle.geodetic_search.proofs.estimate.Statement.{statement}
 use Rattle.geodetic_search.proofs.estimate.Tie as tie
 
-abbrev start : tie.After-three-terms → tie.Start
+abbrev start : tie.After-three-lines → tie.Start
 start c = c .before .before .before .before .before
 
-three-terms-requires : tie.Need-three-terms-requires
-three-terms-requires c κs = search needs
+three-lines-requires : tie.Need-three-lines-requires
+three-lines-requires c κs = search needs
 
-terms-small : (c : tie.After-three-terms) → natAbs (c .three-terms .result) ≤ 46_000_000 * unit
+terms-small : (c : tie.After-three-lines) → natAbs (c .three-lines .result) ≤ 47_000_000 * unit
 terms-small c =
     let latitude = toZ w64 (ofZ w64 (start c .args .beta .0)) in
-    rw (c .three-terms .ensures) (three-terms-size (three-terms-requires (c .before) (c .three-terms .lifetimes) .1) latitude)
+    three-lines-size (three-lines-requires (c .before) (c .three-lines .lifetimes) .1) (c .three-lines .result) latitude (c .three-lines .ensures)
 
 near-requires : tie.Need-near-requires
-near-requires c κs = (lit< tt, rw (returned (c .three-terms .ok)) (omega (arith, terms-small c)))
+near-requires c κs = (lit< tt, rw (returned (c .three-lines .ok)) (omega (arith, terms-small c)))
 
 correction-small : (c : tie.After-near) → natAbs (c .near .result) ≤ 1_000_000
 correction-small c =
     let b = c .before in
-    rw (c .near .ensures) (near-at-most _ 64_000_000_000 1_000_000 (lit< tt) (rw (returned (b .three-terms .ok)) (omega (arith, terms-small b))))
+    rw (c .near .ensures) (near-at-most _ 64_000_000_000 1_000_000 (lit< tt) (rw (returned (b .three-lines .ok)) (omega (arith, terms-small b))))
 
 add-count-from-pole : tie.Need-add-count-from-pole
 add-count-from-pole c = let s = correction-small (c .before .before) in fits (search code depth 40 fits 20000) tt
@@ -44,4 +44,4 @@ returns : tie.Need-returns
 returns c = search needs
 
 pub estimate-spec : {M : Type 1} → statement M
-estimate-spec = tie.close (tie.spec three-terms-requires near-requires add-count-from-pole count-from-pole-requires returns)
+estimate-spec = tie.close (tie.spec three-lines-requires near-requires add-count-from-pole count-from-pole-requires returns)
