@@ -4,7 +4,7 @@
 use mathlib.Core.Path.{_≡_, sym, _∙_}
 use mathlib.Core.Bool.{Bool, true}
 use mathlib.Core.List.{[], _∷_}
-use Prim.Native.Nat.{ℕ, _+_, _*_, _≤_}
+use Prim.Native.Nat.{ℕ, _*_, _≤_}
 use native.Mathlib.Nat.{le-refl}
 use native.Mathlib.Omega.{arith}
 use borrow.Author.Tests.{ltb-true}
@@ -15,7 +15,7 @@ use Rattle.integers.specs.Near.{near}
 use Rattle.integers.proofs.Rounding.{near-only}
 use Rattle.units.specs.Units.{unit, U}
 use Rattle.latitudes.specs.Latitude.{SmallTerms}
-use Rattle.latitudes.specs.Rounding.{weighted, terms-error, half-unit, safe}
+use Rattle.latitudes.specs.Rounding.{weighted, terms-error, safe}
 
 -- x, y and z for the three sines
 pub terms-apart :
@@ -41,8 +41,7 @@ terms-error-size small = omega (arith, small .k2-size, small .k4-size, small .k6
 pub safe-rounds : (about y : ℤ) (error : ℕ) → safe about y error ≡ true → (n : ℤ) → natAbs (n -ℤ about) ≤ error → near n unit ≡ y
 unfolding safe
 safe-rounds about y error e n h =
-    let inside = ltb-true (natAbs (about -ℤ y *ℤ U) + error) half-unit e in
-    near-only n y unit (omega (arith, inside, abs-sub-sym (y *ℤ U) n, abs-via n about (y *ℤ U)))
+    near-only n y unit (omega (arith, ltb-true, abs-sub-sym (y *ℤ U) n, abs-via n about (y *ℤ U)))
 
 -- as a caller knows it: r is what the test told of `about`, which was read back as x, and of `error`, which is e
 pub safe-told :

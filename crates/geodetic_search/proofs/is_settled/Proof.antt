@@ -1,17 +1,15 @@
 -- `is_settled` meets its contract: n counts a latitude φ from the South Pole, and the quicker sum at φ is so near the terms at φ and at φ + 1 that,
 -- where its rounding to φ − β is safe by that much, both round to φ − β. Then φ is the greatest latitude. Assumes nothing.
 use borrow.Author.Needs.{needs}
-use mathlib.Core.Path.{_≡_, ap, _∙_}
+use mathlib.Core.Path.{_≡_, _∙_}
 use mathlib.Core.Bool.{true}
 use Prim.Native.Nat.{ℕ, _*_, _≤_}
 use native.Mathlib.Omega.{arith}
 use lib.IntN.{ℤ, pos, natAbs, _+ℤ_, _-ℤ_}
-use mir.Syntax.{w64}
-use mir.Val.{toZ, ofZ}
 use Rattle.proof_kit.proofs.Range.{code, fits, read, read-size, returned}
 use Rattle.proof_kit.proofs.Size.{as-size, abs-via, abs-sub-sym}
 use Rattle.integers.specs.Near.{near}
-use Rattle.units.specs.Units.{unit, right-angle}
+use Rattle.units.specs.Units.{unit}
 use Rattle.latitudes.specs.declared.AuthalicSeries.{AuthalicSeries}
 use Rattle.latitudes.specs.Latitude.{SmallSeries, three-terms}
 use Rattle.latitudes.specs.Rounding.{terms-error}
