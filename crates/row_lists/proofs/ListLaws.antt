@@ -8,7 +8,7 @@ use native.Mathlib.Omega.{arith}
 use lib.Ieee.{Float, nan}
 use lib.ListN.{length, getD, set, take, drop}
 use Rattle.pairs.specs.declared.Row.{Row}
-use Rattle.row_lists.specs.Rows.{rows, zeros}
+use Rattle.row_lists.specs.Rows.{rows, firstValues, secondValues, marks as marksOf, zeros}
 
 -- after i stores, from the front, of the elements of `new` into a list
 module _ {A : Type 0} where
@@ -80,18 +80,59 @@ module _ {A : Type 0} {column : Row → A} {row : Float → Float → Row} {xs y
   pub room-left : i < length xs → i < length now
   room-left l = omega (arith, kept-length, f .room)
 
-  pub stored : (d : A) (r : Row) → i < length xs → r ≡ row (getD xs i nan) (getD ys i nan) →
-      set now i (column r) ≡ filled (i + 1) (map column (rows row xs ys)) old
-  stored d r l e =
+  -- the store of one more
+  pub stored : (d : A) (r : Row) (after : List A) → i < length xs → r ≡ row (getD xs i nan) (getD ys i nan) → after ≡ set now i (column r) →
+      Filling column row xs ys old after (i + 1)
+  stored d r after l e is =
       let inside : i < length old = omega (arith, f .room) in
-      filled-more i (map column (rows row xs ys)) old now d (column r) same-room inside (f .so-far)
-      (ap column e ∙ sym (column-at column row xs ys i d nan nan (f .equal) l))
+      record {
+        equal = f .equal;
+        room = f .room;
+        so-far =
+            is
+            ∙ filled-more i (map column (rows row xs ys)) old now d (column r) same-room inside (f .so-far)
+            (ap column e ∙ sym (column-at column row xs ys i d nan nan (f .equal) l));
+      }
 
   pub finished : i ≡ length xs → now ≡ map column (rows row xs ys)
   finished e =
       f .so-far
       ∙ ap (λ (k : ℕ). filled k (map column (rows row xs ys)) old) (e ∙ sym (f .room))
       ∙ filled-all (map column (rows row xs ys)) old same-room
+
+-- The three lent lists once the first i points were stored into them.
+pub record Stored (row : Float → Float → Row) (xs ys leading₀ trailing₀ : List Float) (marks₀ : List ℕ)
+    (leading trailing : List Float) (marks : List ℕ) (i : ℕ) : Type 0 where
+  pub passed : i ≤ length xs
+  pub to-leading : Filling (λ (r : Row). r .first) row xs ys leading₀ leading i
+  pub to-trailing : Filling (λ (r : Row). r .second) row xs ys trailing₀ trailing i
+  pub to-marks : Filling (λ (r : Row). r .mark) row xs ys marks₀ marks i
+
+module _ {row : Float → Float → Row} {xs ys leading₀ trailing₀ : List Float} {marks₀ : List ℕ} {leading trailing : List Float} {marks : List ℕ} {i : ℕ}
+    (s : Stored row xs ys leading₀ trailing₀ marks₀ leading trailing marks i) where
+  pub rooms : i < length xs → (i < length leading) × (i < length trailing) × (i < length marks)
+  rooms l = (room-left (s .to-leading) l, room-left (s .to-trailing) l, room-left (s .to-marks) l)
+
+  pub one-more :
+      (r : Row) {leading′ trailing′ : List Float} {marks′ : List ℕ} →
+      i < length xs →
+      r ≡ row (getD xs i nan) (getD ys i nan) →
+      leading′ ≡ set leading i (r .first) →
+      trailing′ ≡ set trailing i (r .second) →
+      marks′ ≡ set marks i (r .mark) →
+      Stored row xs ys leading₀ trailing₀ marks₀ leading′ trailing′ marks′ (i + 1)
+  one-more r {leading′} {trailing′} {marks′} l e first second mark =
+      record {
+        passed = omega arith;
+        to-leading = stored (s .to-leading) nan r leading′ l e first;
+        to-trailing = stored (s .to-trailing) nan r trailing′ l e second;
+        to-marks = stored (s .to-marks) 0 r marks′ l e mark;
+      }
+
+  pub all-stored :
+      i ≡ length xs →
+      (leading ≡ firstValues (rows row xs ys)) × ((trailing ≡ secondValues (rows row xs ys)) × (marks ≡ marksOf (rows row xs ys)))
+  all-stored e = (finished (s .to-leading) e, (finished (s .to-trailing) e, finished (s .to-marks) e))
 
 -- ---- the count of zeros
 

@@ -1,10 +1,6 @@
 -- `point` meets its contract: each arm is a direction, and the row is what the single call's answer tells. Assumes nothing.
 use borrow.Author.Needs.{needs}
-use mathlib.Core.Path.{sym, ap, _∙_}
-use mathlib.Core.Bool.{Bool}
-use Rattle.pairs.specs.Pairs.{plane-row, geodetic-row, degrees, metres}
-use Rattle.points.proofs.AnswerLaws.{forward-tells, inverse-tells}
-use Rattle.row_lists.specs.Rows.{rowOf}
+use Rattle.row_lists.proofs.RowLaws.{forward-row, inverse-row}
 use Rattle.row_lists.proofs.point.Statement.{statement}
 use Rattle.row_lists.proofs.point.Tie as tie
 
@@ -16,11 +12,10 @@ plane-row-requires c κs = search needs
 
 returns : tie.Need-returns
 returns c =
-    let a = c .before .before .before .args in
-    c .plane-row .ensures
-    ∙ ap plane-row (c .before .forward-pair .ensures)
-    ∙ forward-tells (a .p) (degrees (a .x) (a .y))
-    ∙ ap (λ (w : Bool). rowOf w (a .p) (a .x) (a .y)) (sym (c .before .before .if1 .taken))
+    let pair = c .before .forward-pair in
+    let arm = c .before .before in
+    let a = arm .before .args in
+    forward-row (a .p) (a .forward) (a .x) (a .y) (c .plane-row .result) (pair .result) (arm .if1 .taken) (pair .ensures) (c .plane-row .ensures)
 
 inverse-pair-requires : tie.Need-inverse-pair-requires
 inverse-pair-requires c κs = search needs
@@ -30,11 +25,10 @@ geodetic-row-requires c κs = search needs
 
 returns-2 : tie.Need-returns-2
 returns-2 c =
-    let a = c .before .before .before .args in
-    c .geodetic-row .ensures
-    ∙ ap geodetic-row (c .before .inverse-pair .ensures)
-    ∙ inverse-tells (a .p) (metres (a .x) (a .y))
-    ∙ ap (λ (w : Bool). rowOf w (a .p) (a .x) (a .y)) (sym (c .before .before .if1 .left))
+    let pair = c .before .inverse-pair in
+    let arm = c .before .before in
+    let a = arm .before .args in
+    inverse-row (a .p) (a .forward) (a .x) (a .y) (c .geodetic-row .result) (pair .result) (arm .if1 .left) (pair .ensures) (c .geodetic-row .ensures)
 
 pub point-spec : {M : Type 1} → statement M
 point-spec =
