@@ -12,8 +12,7 @@ use latitudes::Geodetic;
 use latitudes::to_authalic;
 use parameters::Parameters;
 use sine_table::Table;
-use trig::cosine;
-use trig::sine;
+use trig::sine_cosine;
 use units::LATITUDE_LEAST;
 use units::LATITUDE_MOST;
 use units::LONGITUDE_LEAST;
@@ -106,13 +105,13 @@ pub fn direction_of(t: &Table, k: Constants, lat: Geodetic, d: i64) -> Direction
     let s0 = k.s0;
     let c0 = k.c0;
     let beta = to_authalic(t, series, lat);
-    let b = beta.sine(t);
-    let c = beta.cosine(t);
-    let v = product(c, cosine(t, d));
+    let on = beta.sine_cosine(t);
+    let turn = sine_cosine(t, d);
+    let v = product(on.cosine, turn.cosine);
     Direction {
-        u: product(c, sine(t, d)),
-        w: difference(c0, b, s0, v),
-        g: UNIT + sum(s0, b, c0, v),
+        u: product(on.cosine, turn.sine),
+        w: difference(c0, on.sine, s0, v),
+        g: UNIT + sum(s0, on.sine, c0, v),
     }
 }
 

@@ -2,10 +2,12 @@
 use integers::magnitude;
 use integers::near;
 use sine_table::Table;
+use trig::SineCosine;
 use trig::cosine;
 use trig::sine;
 use trig::sine_by_line;
 use trig::sine_by_minute;
+use trig::sine_cosine;
 use units::UNIT;
 use units::UNIT_DIVISOR;
 ghost use mathlib.Core.Path.{_≡_};
@@ -63,6 +65,15 @@ impl Authalic {
     {
         let beta = self.0;
         cosine(t, beta)
+    }
+
+    // Both at once.
+    pub fn sine_cosine(self, t: &Table) -> SineCosine
+        requires { ⌜ IsTable (now t) × (natAbs (self .0) ≤ right-angle) ⌝ }
+        ensures { λ r. ⌜ (r .sine ≡ sineOf (self .0)) × (r .cosine ≡ cosineOf (self .0)) ⌝ }
+    {
+        let beta = self.0;
+        sine_cosine(t, beta)
     }
 }
 
