@@ -1,2 +1,3 @@
 pub mod InverseLaws
 pub mod AnswerLaws
+pub mod StageLaws

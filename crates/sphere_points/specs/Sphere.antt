@@ -1,5 +1,5 @@
 -- Document 01, "Inverse steps": from X, Y and K to the point of the sphere, and to its β and Δ. Numbers are in billionths, angles in mas.
-use Prim.Native.Nat.{_-_, _*_, _≤_}
+use Prim.Native.Nat.{ℕ, _-_, _*_, _≤_}
 use mathlib.Core.Bool.{cond}
 use lib.IntN.{ℤ, pos, natAbs, _+ℤ_, _-ℤ_, _*ℤ_}
 use lib.Signed.{ltZ}
@@ -36,6 +36,10 @@ fOf k up north = near (up *ℤ k .c0 -ℤ north *ℤ k .s0) unit
 unfoldable pub pointOf : Constants → ℤ → ℤ → ℤ → SpherePoint
 pointOf k X Y K =
     record { east = level K X; z = zOf k (up K) (level K Y); f = fOf k (up K) (level K Y) }
+
+-- "east² + f²": the square of a point's distance from the axis
+abbrev pub squaredRadius : SpherePoint → ℕ
+squaredRadius s = natAbs (s .east *ℤ s .east +ℤ s .f *ℤ s .f)
 
 -- "|β| = angle(root(east² + f²), |z|), with the sign of z"
 unfoldable pub latitudeOf : SpherePoint → Authalic

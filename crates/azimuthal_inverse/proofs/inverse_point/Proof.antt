@@ -1,91 +1,66 @@
--- `inverse_point` meets its contract: a point on the plane is near enough to the false origin for 64 bits, and the steps answer it.
--- Assumes nothing.
+-- `inverse_point` meets its contract: it is made of the stages, and each root is the one that the next stage asks for. Assumes nothing.
 use borrow.Author.Needs.{needs}
-use borrow.Author.Tests.{not-true, not-false}
-use mathlib.Core.Path.{_≡_, sym, ap₂, _∙_}
-use mathlib.Core.Bool.{true}
-use Prim.Native.Nat.{_≤_}
-use lib.IntN.{ℤ, natAbs, _-ℤ_}
-use mir.Syntax.{w64}
-use mir.Val.{SFits}
-use mir.Facts.{toZ-ofZ}
-use Rattle.proof_kit.proofs.Range.{code, fits, read, read-size}
-use Rattle.proof_kit.proofs.Size.{as-size}
-use Rattle.parameters.specs.declared.Parameters.{Parameters}
-use Rattle.constants.specs.declared.Constants.{Constants}
-use Rattle.units.specs.Units.{plane-limit}
-use Rattle.units.specs.Spans.{on-plane}
+use mathlib.Core.Path.{_≡_, ap, _∙_}
+use Rattle.proof_kit.proofs.Range.{returned}
+use Rattle.integers.specs.Root.{root}
 use Rattle.billionths.proofs.Calls.{back}
-use Rattle.azimuthal_inverse.specs.declared.GeodeticAnswer.{GeodeticAnswer}
-use Rattle.azimuthal_inverse.specs.Answer.{answerFrom}
-use Rattle.parameters.proofs.AcceptedSet.{accepted-fields}
-use Rattle.azimuthal_inverse.proofs.AnswerLaws.{inverse-off-plane, inverse-on-plane}
-use Rattle.units.proofs.Spans.{plane-sizes}
+use Rattle.azimuthal_forward.specs.Steps.{H}
+use Rattle.sphere_points.specs.Sphere.{G, SmallPoint}
+use Rattle.azimuthal_inverse.specs.Stages.{SmallPlanePoint}
+use Rattle.azimuthal_inverse.proofs.StageLaws.{centre-bounded, plane-point-small, stages-are, nearness-given, sphere-point-small}
 use Rattle.azimuthal_inverse.proofs.inverse_point.Statement.{statement}
 use Rattle.azimuthal_inverse.proofs.inverse_point.Tie as tie
 
--- the start of the function, as the later places look back at it
-abbrev start-at-else1 : tie.Else1 → tie.Start
-start-at-else1 c = c .before .before
+plane-point-requires : tie.Need-plane-point-requires
+plane-point-requires c κs = search needs
 
-is-on-plane-requires : tie.Need-is-on-plane-requires
-is-on-plane-requires c κs = search needs
+q-small : (c : tie.After-plane-point) → SmallPlanePoint (c .plane-point .result)
+q-small c = plane-point-small (c .before .pre) _ _ (c .plane-point .ensures)
 
-plane-is : (c : tie.After-is-on-plane) → c .is-on-plane .result ≡ on-plane (c .before .args .easting) (c .before .args .northing)
-plane-is c = c .is-on-plane .ensures ∙ ap₂ on-plane (toZ-ofZ (c .before .fits .easting)) (toZ-ofZ (c .before .fits .northing))
+nearness-requires : tie.Need-nearness-requires
+nearness-requires c κs = q-small c
+
+g-is : (c : tie.After-nearness) → back (c .nearness .result) ≡ G (c .before .plane-point .result .versed)
+g-is c = returned (c .nearness .ok) ∙ c .nearness .ensures
+
+scale-requires : tie.Need-scale-requires
+scale-requires c κs = nearness-given (q-small (c .before)) (g-is c)
+
+sphere-point-requires : tie.Need-sphere-point-requires
+sphere-point-requires c κs =
+    let q = c .before .before in
+    (centre-bounded (q .before .pre), q-small q, c .scale .ensures ∙ ap H (g-is (c .before)))
+
+s-small : (c : tie.After-sphere-point) → SmallPoint (c .sphere-point .result)
+s-small c = let q = c .before .before .before in sphere-point-small (q-small q) (centre-bounded (q .before .pre)) (c .sphere-point .ensures)
+
+squared-radius-requires : tie.Need-squared-radius-requires
+squared-radius-requires c κs = s-small c
+
+root-requires : tie.Need-root-requires
+root-requires c κs = search needs
+
+answer-requires : tie.Need-answer-requires
+answer-requires c κs =
+    let s = c .before .before in
+    (s .before .before .before .before .pre, s-small s, c .root .ensures ∙ ap root (c .before .squared-radius .ensures))
 
 returns : tie.Need-returns
 returns c =
-    sym (inverse-off-plane _ _ _ (c .before .before .pre .set-accepted)
-    (sym (plane-is (c .before)) ∙ not-true (c .before .is-on-plane .result) (c .if1 .taken)))
-
-on-it : (c : tie.Else1) → on-plane (start-at-else1 c .args .easting) (start-at-else1 c .args .northing) ≡ true
-on-it c = sym (plane-is (c .before)) ∙ not-false (c .before .is-on-plane .result) (c .if1 .left)
-
--- a coordinate z on the plane, counted from the false one o as the code counts it
-record Counted (z o : ℤ) : Type 0 where
-  pub within : SFits w64 (back z -ℤ back o)
-  pub small : natAbs (back (back z -ℤ back o)) ≤ 6_000_000_000
-  pub is : back (back z -ℤ back o) ≡ z -ℤ o
-
-counted : (z o : ℤ) → natAbs z ≤ plane-limit → natAbs o ≤ 1_000_000_000 → Counted z o
-counted z o h l =
-    record {
-      within = fits (search (code, h, l) depth 40 fits 20000) tt;
-      small = rw as-size (read-size (search (code, h, l) depth 40 fits 20000) tt);
-      is = read (search (code, h, l) depth 40 fits 20000) tt;
-    }
-
-easting : (c : tie.Else1) → let s = start-at-else1 c in Counted (s .args .easting) (s .args .p .«false_easting»)
-easting c = counted _ _ (plane-sizes _ _ (on-it c) .0) (accepted-fields _ (start-at-else1 c .pre .set-accepted) .easting-size)
-
-northing : (c : tie.Else1) → let s = start-at-else1 c in Counted (s .args .northing) (s .args .p .«false_northing»)
-northing c = counted _ _ (plane-sizes _ _ (on-it c) .1) (accepted-fields _ (start-at-else1 c .pre .set-accepted) .northing-size)
-
-sub-unproject : tie.Need-sub-unproject
-sub-unproject c = easting (c .before .before) .within
-
-sub-unproject-2 : tie.Need-sub-unproject-2
-sub-unproject-2 c = northing (c .before .before .before .before) .within
-
-unproject-requires : tie.Need-unproject-requires
-unproject-requires c κs =
-    let e = c .before .before .before .before in
-    (start-at-else1 e .pre, easting e .small, northing e .small)
-
--- equal constants and distances have equal answers
-from-same : (p : Parameters) {r : GeodeticAnswer} {k k′ : Constants} {x x′ y y′ : ℤ} → r ≡ answerFrom p k x y → k ≡ k′ → x ≡ x′ → y ≡ y′ →
-    r ≡ answerFrom p k′ x′ y′
-from-same p e f g h = rw (e, f, g, h)
-
-returns-2 : tie.Need-returns-2
-returns-2 c =
-    let e = c .before .before .before .before .before in
-    let s = start-at-else1 e in
-    from-same (s .args .p) (c .unproject .ensures) (s .pre .constants) (easting e .is) (northing e .is)
-    ∙ sym (inverse-on-plane _ _ _ (s .pre .set-accepted) (on-it e))
+    let s = c .before .before .before in
+    let q = s .before .before .before in
+    let start = q .before in
+    stages-are (start .pre) (start .fits .easting) (start .fits .northing) (q .plane-point .ensures) (s .sphere-point .ensures) (c .answer .ensures)
 
 pub inverse-point-spec : {M : Type 1} → statement M
 inverse-point-spec =
     tie.close
-    (tie.spec is-on-plane-requires returns sub-unproject sub-unproject-2 unproject-requires returns-2)
+    (tie.spec
+    plane-point-requires
+    nearness-requires
+    scale-requires
+    sphere-point-requires
+    squared-radius-requires
+    root-requires
+    answer-requires
+    returns)

@@ -1,28 +1,20 @@
 -- `point` meets its contract: K from 0 to 1.98 U keeps every quantity at most 2 units in size, and every sum within 64 bits. Assumes nothing.
 use mathlib.Core.Path.{_≡_, ap, _∙_}
 use Prim.Native.Nat.{_≤_}
-use native.Mathlib.Nat.{le-trans}
 use lib.Dec.{lit<, lit≤}
 use lib.IntN.{ℤ, pos, natAbs, _-ℤ_}
 use Rattle.proof_kit.proofs.Range.{code, fits, read}
-use Rattle.proof_kit.proofs.Order.{≤ℤ-trans, pos-≤ℤ}
 use Rattle.units.specs.Units.{unit}
 use Rattle.azimuthal_forward.specs.Steps.{H}
 use Rattle.sphere_points.specs.Sphere.{G, up, level, zOf, fOf, pointOf}
 use Rattle.billionths.proofs.Calls.{back, back-is, fits-is, near-is, product-is, Holds, holds, given-holds}
-use Rattle.sphere_points.proofs.SphereLaws.{G-least, G-most, up-size, H-small, level-size}
+use Rattle.sphere_points.proofs.SphereLaws.{up-size, H-small, level-size}
 use Rattle.sphere_points.proofs.point.Statement.{statement}
 use Rattle.sphere_points.proofs.point.Tie as tie
 
 -- the start of the function, as the later places look back at it
-abbrev start-at-struct-told2 : tie.After-struct-told2 → tie.Start
-start-at-struct-told2 c = c .before .before
-
-abbrev start-at-scale : tie.After-scale → tie.Start
-start-at-scale c = start-at-struct-told2 (c .before)
-
 abbrev start-at-product : tie.After-product → tie.Start
-start-at-product c = start-at-scale (c .before)
+start-at-product c = c .before .before .before
 
 abbrev start-at-product2 : tie.After-product2 → tie.Start
 start-at-product2 c = start-at-product (c .before)
@@ -40,29 +32,18 @@ east s = level (K s) (s .args .x)
 abbrev north : tie.Start → ℤ
 north s = level (K s) (s .args .y)
 
-sub-scale : tie.Need-sub-scale
-sub-scale c = fits (search code depth 40 fits 20000) tt
-
-G-read : (s : tie.Start) → back (pos 2_000_000_000 -ℤ back (K s)) ≡ G (K s)
-unfolding G
-G-read s = read (search (code, s .pre .4) depth 40 fits 20000) tt
-
-scale-requires : tie.Need-scale-requires
-scale-requires c κs =
-    let s = start-at-struct-told2 c in
-    rw (G-read s) (≤ℤ-trans (pos-≤ℤ (lit≤ tt)) (G-least _ (s .pre .3) (s .pre .4)), le-trans (G-most _ (s .pre .3) (s .pre .4)) (lit≤ tt))
-
-h-is : (c : tie.After-scale) → pos (c .scale .result) ≡ h (start-at-scale c)
-h-is c = ap pos (c .scale .ensures ∙ ap H (G-read (start-at-scale c)))
-
 h-size : (s : tie.Start) → natAbs (h s) ≤ unit
 h-size s = H-small _ (s .pre .3) (s .pre .4)
 
-cast-h : tie.Need-cast-h
-cast-h c = fits-is (h-is c) (h-size (start-at-scale c)) (lit< tt)
+-- the H that was lent
+h-is : (s : tie.Start) → pos (s .args .h) ≡ h s
+h-is s = ap pos (s .pre .5)
 
-h-holds : (c : tie.After-scale) → Holds (pos (c .scale .result)) (h (start-at-scale c))
-h-holds c = let l = h-size (start-at-scale c) in holds (back-is (h-is c) l (lit< tt)) l (lit≤ tt)
+cast-scale : tie.Need-cast-scale
+cast-scale c = let s = c .before .before in fits-is (h-is s) (h-size s) (lit< tt)
+
+h-holds : (s : tie.Start) → Holds (pos (s .args .h)) (h s)
+h-holds s = holds (back-is (h-is s) (h-size s) (lit< tt)) (h-size s) (lit≤ tt)
 
 sub-up : tie.Need-sub-up
 sub-up c = fits (search code depth 40 fits 20000) tt
@@ -78,21 +59,21 @@ y-holds : (s : tie.Start) → Holds (s .args .y) (s .args .y)
 y-holds s = given-holds (s .pre .2) (lit≤ tt)
 
 product-requires : tie.Need-product-requires
-product-requires c κs = (y-holds (start-at-scale c) .small, h-holds c .small)
+product-requires c κs = let s = c .before .before in (y-holds s .small, h-holds s .small)
 
 north-holds : (c : tie.After-product) → Holds (c .product .result) (north (start-at-product c))
 unfolding level
 north-holds c =
     let s = start-at-product c in
-    holds (product-is (c .product .ok) (c .product .ensures) (y-holds s .is) (h-holds (c .before) .is))
+    holds (product-is (c .product .ok) (c .product .ensures) (y-holds s .is) (h-holds s .is))
     (level-size _ (s .pre .3) (s .pre .4) (s .args .y) (s .pre .2)) (lit≤ tt)
 
 product-requires-2 : tie.Need-product-requires-2
-product-requires-2 c κs = (x-holds (start-at-product c) .small, h-holds (c .before) .small)
+product-requires-2 c κs = let s = start-at-product c in (x-holds s .small, h-holds s .small)
 
 east-read : (c : tie.After-product2) → back (c .product2 .result) ≡ east (start-at-product2 c)
 unfolding level
-east-read c = product-is (c .product2 .ok) (c .product2 .ensures) (x-holds (start-at-product2 c) .is) (h-holds (c .before .before) .is)
+east-read c = let s = start-at-product2 c in product-is (c .product2 .ok) (c .product2 .ensures) (x-holds s .is) (h-holds s .is)
 
 -- up, north, S0 and C0, which both of the last calls take
 record Taken (c : tie.After-product2) (s : tie.Start) : Type 0 where
@@ -137,9 +118,7 @@ pub point-spec : {M : Type 1} → statement M
 point-spec =
     tie.close
     (tie.spec
-    sub-scale
-    scale-requires
-    cast-h
+    cast-scale
     sub-up
     product-requires
     product-requires-2

@@ -1,4 +1,4 @@
--- `unproject` meets its contract: each return follows from the tests that led there, and on the map X and Y are at most 2 units. Assumes nothing.
+-- `reduced` meets its contract: each return follows from the tests that led there, and on the map X and Y are at most 2 units. Assumes nothing.
 use borrow.Author.Needs.{needs}
 use borrow.Author.Tests.{not-true, not-false}
 use mathlib.Core.Path.{_≡_, sym, ap, ap₂, _∙_, subst}
@@ -12,22 +12,19 @@ use mir.Facts.{toZ-ofZ}
 use Rattle.proof_kit.proofs.Range.{kept, returned}
 use Rattle.proof_kit.proofs.Size.{abs-sub-le}
 use Rattle.proof_kit.proofs.Order.{ltZ-true, ltZ-false, lt-leZ, le-leZ, pos-≤ℤ}
-use Rattle.units.specs.Units.{half-turn}
 use Rattle.units.proofs.Spans.{Between}
-use Rattle.parameters.proofs.AcceptedSet.{accepted-fields}
 use Rattle.constants.specs.declared.Constants.{Constants}
 use Rattle.constants.proofs.ConstantsLaws.{Sound, sound-as}
 use Rattle.billionths.proofs.Calls.{back, back-is, fits-is, quotient-is}
 use Rattle.azimuthal_forward.specs.Steps.{near-enough}
-use Rattle.azimuthal_inverse.specs.declared.GeodeticAnswer.the-variants.{Position}
-use Rattle.azimuthal_inverse.specs.Steps.{at-origin, on-map, X, Y, K, found}
-use Rattle.sphere_points.specs.Sphere.{versineOf, G, SmallPoint}
-use Rattle.azimuthal_inverse.specs.Answer.{positionOf}
-use Rattle.sphere_points.proofs.SphereLaws.{K-near, versine-size, point-sized}
-use Rattle.azimuthal_inverse.proofs.InverseLaws.{K-natural, OnMap, map-sizes}
-use Rattle.azimuthal_inverse.proofs.AnswerLaws.{from-origin, from-off-map, from-too-far, from-position}
-use Rattle.azimuthal_inverse.proofs.unproject.Statement.{statement}
-use Rattle.azimuthal_inverse.proofs.unproject.Tie as tie
+use Rattle.sphere_points.specs.Sphere.{versineOf, G}
+use Rattle.sphere_points.proofs.SphereLaws.{versine-size}
+use Rattle.azimuthal_inverse.specs.Steps.{at-origin, on-map, X, Y, K}
+use Rattle.azimuthal_inverse.proofs.InverseLaws.{OnMap, map-sizes}
+use Rattle.azimuthal_inverse.proofs.StageLaws.{outcome-is}
+use Rattle.azimuthal_inverse.proofs.StageLaws.Outcome.{origin, off-map, too-far, stepped}
+use Rattle.azimuthal_inverse.proofs.reduced.Statement.{statement}
+use Rattle.azimuthal_inverse.proofs.reduced.Tie as tie
 
 -- the places that the later ones look back at
 abbrev start-at-else1 : tie.Else1 → tie.Start
@@ -42,21 +39,12 @@ else2-at-versine c = c .before .before .before .before .before
 abbrev start-at-versine : tie.After-versine → tie.Start
 start-at-versine c = start-at-else2 (else2-at-versine c)
 
-abbrev start-at-point : tie.After-point → tie.Start
-start-at-point c = start-at-versine (c .before .before .before)
-
 -- a value of the paper for the constants, dE and dN that the function was given
 abbrev value : {A : Type 0} → (Constants → ℤ → ℤ → A) → tie.Start → A
 value q s = q (s .args .k) (s .args .de) (s .args .dn)
 
-lon0-small : (s : tie.Start) → natAbs (s .args .p .lon0) ≤ half-turn
-lon0-small s = accepted-fields _ (s .pre .0 .set-accepted) .lon0-size
-
-lon0-read : (s : tie.Start) → back (s .args .p .lon0) ≡ s .args .p .lon0
-lon0-read s = kept _ (lon0-small s) (lit< tt)
-
 constants : (s : tie.Start) → Sound (s .args .k)
-constants s = sound-as _ _ (s .pre .0 .set-accepted) (s .pre .0 .constants)
+constants s = sound-as (s .pre .set) _ (s .pre .set-accepted) (s .pre .constants)
 
 is-origin-requires : tie.Need-is-origin-requires
 is-origin-requires c κs = search needs
@@ -64,11 +52,13 @@ is-origin-requires c κs = search needs
 origin-is : (c : tie.After-is-origin) → c .is-origin .result ≡ at-origin (c .before .args .de) (c .before .args .dn)
 origin-is c = c .is-origin .ensures ∙ ap₂ at-origin (toZ-ofZ (c .before .fits .de)) (toZ-ofZ (c .before .fits .dn))
 
+answered-early-requires : tie.Need-answered-early-requires
+answered-early-requires c κs = search needs
+
 returns : tie.Need-returns
 returns c =
-    let origin = c .before .before .before in
-    ap (Position (origin .before .args .p .lat0)) (lon0-read (origin .before))
-    ∙ sym (from-origin _ _ _ _ (sym (origin-is origin) ∙ c .before .before .if1 .taken))
+    let tested = c .before .before in
+    c .answered-early .ensures ∙ outcome-is _ _ _ (origin (sym (origin-is tested) ∙ c .before .if1 .taken))
 
 not-origin : (c : tie.Else1) → at-origin (start-at-else1 c .args .de) (start-at-else1 c .args .dn) ≡ false
 not-origin c = sym (origin-is (c .before)) ∙ c .if1 .left
@@ -81,9 +71,14 @@ map-is c =
     let s = start-at-else1 (c .before) in
     c .is-on-map .ensures ∙ ap₂ (on-map (s .args .k)) (toZ-ofZ (s .fits .de)) (toZ-ofZ (s .fits .dn))
 
+answered-early-requires-2 : tie.Need-answered-early-requires-2
+answered-early-requires-2 c κs = search needs
+
 returns-2 : tie.Need-returns-2
 returns-2 c =
-    sym (from-off-map _ _ _ _ (not-origin (c .before .before)) (sym (map-is (c .before)) ∙ not-true (c .before .is-on-map .result) (c .if2 .taken)))
+    let tested = c .before .before in
+    c .answered-early2 .ensures
+    ∙ outcome-is _ _ _ (off-map (not-origin (tested .before)) (sym (map-is tested) ∙ not-true (tested .is-on-map .result) (c .before .if2 .taken)))
 
 on-it : (c : tie.Else2) → value on-map (start-at-else2 c) ≡ true
 on-it c = sym (map-is (c .before)) ∙ not-false (c .before .is-on-map .result) (c .if2 .left)
@@ -155,69 +150,41 @@ G-read c = back-is (G-is c) (G-size c) (lit< tt)
 far : (c : tie.Then3) → G (value K (start-at-versine (c .before))) <ℤ pos 20_000_000
 far c = ltZ-true _ _ (rw (G-read (c .before)) at (c .if3 .taken))
 
+answered-early-requires-3 : tie.Need-answered-early-requires-3
+answered-early-requires-3 c κs = search needs
+
 returns-3 : tie.Need-returns-3
 unfolding near-enough
 returns-3 c =
-    let e = else2-at-versine (c .before) in
-    sym (from-too-far _ _ _ _ (not-origin (e .before .before)) (on-it e) (lt-leZ (far c)))
+    let e = else2-at-versine (c .before .before) in
+    c .answered-early3 .ensures
+    ∙ outcome-is _ _ _ (too-far (not-origin (e .before .before)) (on-it e) (lt-leZ (far (c .before))))
 
 enough : (c : tie.Else3) → pos 20_000_000 ≤ℤ G (value K (start-at-versine (c .before)))
 enough c = ltZ-false _ _ (rw (G-read (c .before)) at (c .if3 .left))
 
--- K from 0 to 1.98 U
-near-by : (c : tie.Else3) → let k = value K (start-at-versine (c .before)) in (pos 0 ≤ℤ k) × (natAbs k ≤ 1_980_000_000)
-near-by c = K-near _ (K-natural _ _ _) (enough c)
-
-point-requires : tie.Need-point-requires
-point-requires c κs =
-    let versine = c .before .before in
-    let r = ratios (versine .before) in
-    let k = near-by (c .before) in
-    rw (r .x-read, r .y-read, K-read versine) (constants (start-at-versine versine) .centre, r .on-map .X-size, r .on-map .Y-size, k .0, k .1)
-
-point-is : (c : tie.After-point) → c .point .result ≡ value found (start-at-point c)
-unfolding found
-point-is c =
-    let versine = c .before .before .before in
-    let r = ratios (versine .before) in
-    c .point .ensures ∙ rw (r .x-read, r .y-read, K-read versine)
-
-found-sized : (c : tie.After-point) → SmallPoint (value found (start-at-point c))
-unfolding found
-found-sized c =
-    let o = sizes (else2-at-versine (c .before .before .before)) in
-    let k = near-by (c .before .before) in
-    point-sized _ (k .0) (k .1) _ (constants (start-at-point c) .centre) _ _ (o .X-size) (o .Y-size)
-
-position-requires : tie.Need-position-requires
-position-requires c κs =
-    let s = start-at-point (c .before) in
-    (s .pre .0 .table, constants s .small, rw (lon0-read s) (lon0-small s), rw (point-is (c .before)) (found-sized (c .before)))
-
 returns-4 : tie.Need-returns-4
 unfolding near-enough
 returns-4 c =
-    let point = c .before .before in
-    let s = start-at-point point in
-    let near = point .before .before in
-    let e = else2-at-versine (near .before) in
-    c .position .ensures
-    ∙ ap₂ (positionOf (s .args .k .series)) (lon0-read s) (point-is point)
-    ∙ sym (from-position _ _ _ _ (not-origin (e .before .before)) (on-it e) (le-leZ (enough near)))
+    let versine = c .before in
+    let e = else2-at-versine versine in
+    let r = ratios (versine .before) in
+    rw (r .x-read, r .y-read, K-read versine) (outcome-is _ _ _ (stepped (not-origin (e .before .before)) (on-it e) (le-leZ (enough c))))
 
-pub unproject-spec : {M : Type 1} → statement M
-unproject-spec =
+pub reduced-spec : {M : Type 1} → statement M
+reduced-spec =
     tie.close
     (tie.spec
     is-origin-requires
+    answered-early-requires
     returns
     is-on-map-requires
+    answered-early-requires-2
     returns-2
     quotient-requires
     quotient-requires-2
     versine-requires
     sub-if3
+    answered-early-requires-3
     returns-3
-    point-requires
-    position-requires
     returns-4)
