@@ -27,7 +27,7 @@ use Rattle.azimuthal_inverse.specs.declared.PlanePoint.{PlanePoint}
 use Rattle.azimuthal_inverse.specs.declared.GeodeticAnswer.{GeodeticAnswer}
 use Rattle.azimuthal_inverse.specs.Steps.{at-origin, on-map, K, found}
 use Rattle.azimuthal_inverse.specs.Answer.{answerFrom, inverseOf}
-use Rattle.azimuthal_inverse.specs.Stages.{answeredEarly, onMap, reducedOf, planePointOf, SmallPlanePoint, spherePointOf, answerOf}
+use Rattle.azimuthal_inverse.specs.Stages.{answeredEarly, answeredBySteps, reducedOf, planePointOf, SmallPlanePoint, spherePointOf, answerOf}
 use Rattle.azimuthal_inverse.proofs.InverseLaws.{K-natural, map-sizes}
 use Rattle.azimuthal_inverse.proofs.AnswerLaws.{from-origin, from-off-map, from-too-far, from-position, inverse-off-plane, inverse-on-plane}
 
@@ -38,7 +38,7 @@ pub data Outcome (k : Constants) (dE dN : ℤ) : PlanePoint → Type 0 where
   origin : at-origin dE dN ≡ true → Outcome k dE dN (answeredEarly 0 true)
   off-map : at-origin dE dN ≡ false → on-map k dE dN ≡ false → Outcome k dE dN (answeredEarly 4 false)
   too-far : at-origin dE dN ≡ false → on-map k dE dN ≡ true → near-enough (G (K k dE dN)) ≡ false → Outcome k dE dN (answeredEarly 4 false)
-  stepped : at-origin dE dN ≡ false → on-map k dE dN ≡ true → near-enough (G (K k dE dN)) ≡ true → Outcome k dE dN (onMap k dE dN)
+  stepped : at-origin dE dN ≡ false → on-map k dE dN ≡ true → near-enough (G (K k dE dN)) ≡ true → Outcome k dE dN (answeredBySteps k dE dN)
 
 module _ (k : Constants) (dE dN : ℤ) where
   pub outcome-is : {q : PlanePoint} → Outcome k dE dN q → q ≡ reducedOf k dE dN
@@ -104,22 +104,23 @@ module _ (p : Parameters) (k : Constants) (E N : ℤ) where
   point-on-plane e = rw e
 
 module _ (p : Parameters) (ok : setRefusal p ≡ 0) (E N : ℤ) where
-  -- the same, counted from the false origin
+  abbrev k : Constants
+  k = constantsOf p
+
   abbrev dE : ℤ
   dE = E -ℤ p .«false_easting»
 
   abbrev dN : ℤ
   dN = N -ℤ p .«false_northing»
 
-  small : (b : Bool) → on-plane E N ≡ b → SmallPlanePoint (planePointOf p (constantsOf p) E N)
-  small true e = rw (← point-on-plane p (constantsOf p) E N e) (outcome-small _ (sound p ok) dE dN (outcome (constantsOf p) dE dN))
-  small false e = rw (← point-off-plane p (constantsOf p) E N e) (early-small 3 false)
+  every-small : (b : Bool) → on-plane E N ≡ b → SmallPlanePoint (planePointOf p k E N)
+  every-small true e = rw (← point-on-plane p k E N e) (outcome-small k (sound p ok) dE dN (outcome k dE dN))
+  every-small false e = rw (← point-off-plane p k E N e) (early-small 3 false)
 
-  answer : (b : Bool) → on-plane E N ≡ b → let q = planePointOf p (constantsOf p) E N in answerOf p (constantsOf p) q (spherePointOf (constantsOf p) q) ≡ inverseOf p E N
+  every-answer : (b : Bool) → on-plane E N ≡ b → answerOf p k (planePointOf p k E N) (spherePointOf k (planePointOf p k E N)) ≡ inverseOf p E N
   unfolding answerOf
-  answer true e =
-      rw (← point-on-plane p (constantsOf p) E N e) (outcome-answer p (constantsOf p) dE dN (outcome (constantsOf p) dE dN) ∙ sym (inverse-on-plane p E N ok e))
-  answer false e = rw (← point-off-plane p (constantsOf p) E N e) (sym (inverse-off-plane p E N ok e))
+  every-answer true e = rw (← point-on-plane p k E N e) (outcome-answer p k dE dN (outcome k dE dN) ∙ sym (inverse-on-plane p E N ok e))
+  every-answer false e = rw (← point-off-plane p k E N e) (sym (inverse-off-plane p E N ok e))
 
 -- ---- what a caller of the stages knows
 
@@ -128,7 +129,7 @@ module _ {t : List ℕ} {p : Parameters} {k : Constants} (given : Prepared t p k
   centre-bounded = sound-as p k (given .set-accepted) (given .constants) .centre
 
   pub plane-point-small : (E N : ℤ) {q : PlanePoint} → q ≡ planePointOf p k E N → SmallPlanePoint q
-  plane-point-small E N at = rw (at, given .constants) (small p (given .set-accepted) E N (on-plane E N) refl)
+  plane-point-small E N at = rw (at, given .constants) (every-small p (given .set-accepted) E N (on-plane E N) refl)
 
   -- the answer r, of the point of the plane q for E and N as they are read back and of its point of the sphere s
   pub stages-are :
@@ -141,7 +142,7 @@ module _ {t : List ℕ} {p : Parameters} {k : Constants} (given : Prepared t p k
       r ≡ answerOf p k q s →
       r ≡ inverseOf p E N
   stages-are {E} {N} e n at at-s is =
-      is ∙ rw (at-s, at, toZ-ofZ e, toZ-ofZ n, given .constants) (answer p (given .set-accepted) E N (on-plane E N) refl)
+      is ∙ rw (at-s, at, toZ-ofZ e, toZ-ofZ n, given .constants) (every-answer p (given .set-accepted) E N (on-plane E N) refl)
 
 -- a small point of the plane
 module _ {q : PlanePoint} (small : SmallPlanePoint q) where

@@ -1,5 +1,5 @@
--- The inverse steps in stages, with a root between each two: the point of the plane, the point of the sphere, the answer. `AnswerLaws.antt` shows
--- that they give `inverseOf`.
+-- The inverse steps in stages, with a root between each two: the point of the plane, the point of the sphere, the answer. Together they give
+-- `inverseOf` (`proofs/StageLaws.antt`).
 use Prim.Native.Nat.{ℕ, _≤_}
 use mathlib.Core.Path.{_≡_}
 use mathlib.Core.Bool.{Bool, true, false, cond}
@@ -35,13 +35,13 @@ answeredEarly number origin = record { refusal = number; origin = origin; x = po
 
 -- counted from the false origin
 module _ (k : Constants) (dE dN : ℤ) where
-  abbrev pub onMap : PlanePoint
-  onMap = record { refusal = 0; origin = false; x = X k dE; y = Y k dN; versed = K k dE dN }
+  abbrev pub answeredBySteps : PlanePoint
+  answeredBySteps = record { refusal = 0; origin = false; x = X k dE; y = Y k dN; versed = K k dE dN }
 
   unfoldable pub reducedOf : PlanePoint
   reducedOf =
       cond (at-origin dE dN) (answeredEarly 0 true)
-      (cond (on-map k dE dN) (cond (near-enough (G (K k dE dN))) onMap (answeredEarly too-far false)) (answeredEarly too-far false))
+      (cond (on-map k dE dN) (cond (near-enough (G (K k dE dN))) answeredBySteps (answeredEarly too-far false)) (answeredEarly too-far false))
 
 unfoldable pub planePointOf : Parameters → Constants → ℤ → ℤ → PlanePoint
 planePointOf p k E N =

@@ -179,9 +179,9 @@ fn answer(
     requires { ⌜ Prepared (now t) p k × SmallPoint s × (radius ≡ root (squaredRadius s)) ⌝ }
     ensures { λ r. ⌜ r ≡ answerOf p k q s ⌝ }
 {
-    let refusal = q.refusal;
-    if refusal != 0 {
-        return GeodeticAnswer::Refused(refusal);
+    let number = q.refusal;
+    if number != 0 {
+        return GeodeticAnswer::Refused(number);
     }
     if q.origin {
         let latitude = p.lat0;

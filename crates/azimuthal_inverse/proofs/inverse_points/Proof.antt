@@ -63,7 +63,9 @@ sphere-point-requires-2 c κs =
     (centre-bounded (start-at-scales h .pre), q2-small (q2-at-scales h), h .scales .ensures .1 ∙ ap H (g2-is (h .before)))
 
 s-small : (c : tie.After-sphere-point) → SmallPoint (c .sphere-point .result)
-s-small c = sphere-point-small (q-small (q2-at-scales (c .before) .before)) (centre-bounded (start-at-scales (c .before) .pre)) (c .sphere-point .ensures)
+s-small c =
+    let h = c .before in
+    sphere-point-small (q-small (q2-at-scales h .before)) (centre-bounded (start-at-scales h .pre)) (c .sphere-point .ensures)
 
 s2-small : (c : tie.After-sphere-point2) → SmallPoint (c .sphere-point2 .result)
 s2-small c =
@@ -97,10 +99,10 @@ returns c =
     let s = s2 .before in
     let q2 = q2-at-scales (s .before) in
     let q = q2 .before in
-    let start = q .before in
-    let fits = start .fits in
-    (stages-are (start .pre) (fits .easting) (fits .northing) (q .plane-point .ensures) (s .sphere-point .ensures) (one .answer .ensures),
-    stages-are (start .pre) (fits .easting2) (fits .northing2) (q2 .plane-point2 .ensures) (s2 .sphere-point2 .ensures) (c .answer2 .ensures))
+    let start = q .before in (
+      stages-are (start .pre) (start .fits .easting) (start .fits .northing) (q .plane-point .ensures) (s .sphere-point .ensures) (one .answer .ensures),
+      stages-are (start .pre) (start .fits .easting2) (start .fits .northing2) (q2 .plane-point2 .ensures) (s2 .sphere-point2 .ensures) (c .answer2 .ensures),
+    )
 
 pub inverse-points-spec : {M : Type 1} → statement M
 inverse-points-spec =

@@ -1,5 +1,5 @@
 -- `point` meets its contract: K from 0 to 1.98 U keeps every quantity at most 2 units in size, and every sum within 64 bits. Assumes nothing.
-use mathlib.Core.Path.{_≡_, ap, _∙_}
+use mathlib.Core.Path.{_≡_, ap}
 use Prim.Native.Nat.{_≤_}
 use lib.Dec.{lit<, lit≤}
 use lib.IntN.{ℤ, pos, natAbs, _-ℤ_}
