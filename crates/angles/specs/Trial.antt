@@ -1,7 +1,7 @@
 -- Inner: what one test at an angle tells of the greatest angle.
 use mathlib.Core.Path.{_≡_}
 use mathlib.Core.Bool.{cond}
-use Prim.Native.Nat.{ℕ, _≤_}
+use Prim.Native.Nat.{ℕ}
 use lib.Dec.{leb}
 use Rattle.integers.specs.Greatest.{greatest}
 use Rattle.units.specs.Units.{right-angle}

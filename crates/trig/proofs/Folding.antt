@@ -1,7 +1,7 @@
 -- Any angle has the sine and the cosine of one from 0 to 90°, but for their signs: only its size below 360° counts, with the sine's sign turned where
 -- the angle is negative; past 180° that size is taken from 360°, which turns the sine's sign; past 90° from 180°, which turns the cosine's.
 -- Assumes nothing.
-use mathlib.Core.Path.{_≡_, refl, sym, ap, ap₂, _∙_}
+use mathlib.Core.Path.{_≡_, refl, sym, ap, _∙_}
 use mathlib.Core.Bool.{Bool, true, false, not}
 use mathlib.Core.List.{[], _∷_}
 use mathlib.Core.Logic.{_⊎_, inl, inr}

@@ -11,7 +11,6 @@ use units::MINUTE;
 use units::RIGHT_ANGLE;
 use units::UNIT_DIVISOR;
 ghost use mathlib.Core.Path.{_≡_};
-ghost use mathlib.Core.Bool.{Bool};
 ghost use Prim.Native.Nat.{_+_, _-_, _*_, _/_, _<_, _≤_, _^_};
 ghost use lib.IntN.{natAbs, _-ℤ_};
 ghost use Rattle.sine_table.specs.Table.{IsTable, entry};

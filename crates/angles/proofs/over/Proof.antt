@@ -1,5 +1,4 @@
 -- `angles::over` meets its contract: it follows the two cases of the definition. Assumes nothing.
-use mathlib.Core.Path.{sym}
 use borrow.Author.Tests.{le-leb, lt-leb}
 use Rattle.angles.proofs.over.Statement.{statement}
 use Rattle.angles.proofs.over.Tie as tie

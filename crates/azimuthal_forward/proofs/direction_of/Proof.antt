@@ -2,11 +2,9 @@
 use borrow.Author.Needs.{needs}
 use mathlib.Core.Path.{_≡_, ap, _∙_}
 use Prim.Native.Nat.{_≤_}
-use native.Mathlib.Omega.{arith}
 use lib.Dec.{lit<, lit≤}
 use lib.IntN.{ℤ, natAbs, _+ℤ_}
 use mir.Facts.{toZ-ofZ}
-use Rattle.proof_kit.proofs.Range.{returned}
 use Rattle.units.specs.Units.{unit, right-angle, U}
 use Rattle.trig.specs.Sine.{sine, cosine}
 use Rattle.trig.proofs.Interface.{sine-size, cosine-size}

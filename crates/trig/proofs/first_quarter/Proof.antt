@@ -1,16 +1,16 @@
 -- `trig::first_quarter` meets its contract: it follows the two cases of the definition. Where r is not 0, θ is below 90°, so minute k + 1
 -- is still in the table. Assumes nothing.
 use borrow.Author.Needs.{needs}
-use mathlib.Core.Path.{_≡_, sym, ap, ap₂, _∙_}
+use mathlib.Core.Path.{_≡_, sym, ap₂, _∙_}
 use Prim.Native.Nat.{ℕ, _+_, _-_, _*_, _/_, _%_, _<_, _≤_}
 use native.Mathlib.Nat.{le-of-lt, mod-lt}
 use native.Mathlib.Omega.{arith}
 use lib.Dec.{lit<}
-use Rattle.units.specs.Units.{unit, minute}
+use Rattle.units.specs.Units.{minute}
 use Rattle.sine_table.specs.Table.{entry}
 use Rattle.sine_table.proofs.Laws.{entry-at-most}
 use Rattle.trig.specs.Sine.{quarter-minutes, first-quarter}
-use Rattle.trig.specs.Correction.{most-product, whole-correction, rise-of}
+use Rattle.trig.specs.Correction.{whole-correction}
 use Rattle.trig.proofs.Fraction.{on-minute, past-minute, in-minute, product-small, rise-small}
 use Rattle.trig.proofs.first_quarter.Statement.{statement}
 use Rattle.trig.proofs.first_quarter.Tie as tie

@@ -1,9 +1,8 @@
 -- `trig::folded_pair` meets its contract: at 90° the sine is U and the cosine 0; below it the angle lies in a minute. Assumes nothing.
 use borrow.Author.Needs.{needs}
-use mathlib.Core.Path.{_≡_, sym, ap, _∙_}
-use Prim.Native.Nat.{ℕ, _+_, _-_, _*_, _/_, _%_}
+use mathlib.Core.Path.{sym, ap, _∙_}
+use Prim.Native.Nat.{ℕ, _-_}
 use native.Mathlib.Nat.{div-add-mod'}
-use native.Mathlib.Omega.{arith}
 use Rattle.units.specs.Units.{minute, right-angle}
 use Rattle.trig.specs.Sine.{first-quarter}
 use Rattle.trig.proofs.Quarter.{quarter-zero, quarter-right}
