@@ -64,9 +64,10 @@ fn parallel_ratio(t: &Table, e2: i64, lat0: Geodetic) -> i64
     requires { ⌜ IsTable (now t) × (natAbs e2 ≤ 10_000_000) × (natAbs (lat0 .0) ≤ right-angle) ⌝ }
     ensures { λ r. ⌜ r ≡ m e2 lat0 ⌝ }
 {
-    let s = lat0.sine(t);
+    let on = lat0.sine_cosine(t);
+    let s = on.sine;
     let v = UNIT - product(e2, product(s, s));
-    quotient(lat0.cosine(t), unit_root(v))
+    quotient(on.cosine, unit_root(v))
 }
 
 // D: the ratio of the scales of the two axes; 1 at a pole.
@@ -92,12 +93,13 @@ pub fn constants_of(t: &Table, p: Parameters) -> Constants
     let j = radius_ratio(e2, e4, e6);
     let k = series(e2, e4, e6);
     let beta0 = to_authalic(t, k, lat0);
-    let c0 = beta0.cosine(t);
+    let centre = beta0.sine_cosine(t);
+    let c0 = centre.cosine;
     let d = axis_ratio(t, e2, lat0, j, c0);
     let rq = product(p.a, j);
     Constants {
         series: k,
-        s0: beta0.sine(t),
+        s0: centre.sine,
         c0,
         rd: product(rq, d),
         rn: quotient(rq, d),

@@ -33,20 +33,13 @@ pub struct AuthalicSeries {
 }
 
 impl Geodetic {
-    pub fn sine(self, t: &Table) -> i64
+    // Its sine and cosine at once.
+    pub fn sine_cosine(self, t: &Table) -> SineCosine
         requires { ⌜ IsTable (now t) × (natAbs (self .0) ≤ right-angle) ⌝ }
-        ensures { λ r. ⌜ r ≡ sineOf (self .0) ⌝ }
+        ensures { λ r. ⌜ (r .sine ≡ sineOf (self .0)) × (r .cosine ≡ cosineOf (self .0)) ⌝ }
     {
         let phi = self.0;
-        sine(t, phi)
-    }
-
-    pub fn cosine(self, t: &Table) -> i64
-        requires { ⌜ IsTable (now t) × (natAbs (self .0) ≤ right-angle) ⌝ }
-        ensures { λ r. ⌜ r ≡ cosineOf (self .0) ⌝ }
-    {
-        let phi = self.0;
-        cosine(t, phi)
+        sine_cosine(t, phi)
     }
 }
 

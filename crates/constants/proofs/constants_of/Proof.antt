@@ -8,6 +8,7 @@ use lib.IntN.{ℤ, natAbs}
 use Rattle.proof_kit.proofs.Range.{kept, returned}
 use Rattle.units.specs.Units.{right-angle}
 use Rattle.trig.specs.Sine.{sine, cosine}
+use Rattle.trig.proofs.Interface.{sine-size, cosine-size}
 use Rattle.latitudes.specs.declared.AuthalicSeries.{AuthalicSeries}
 use Rattle.latitudes.specs.declared.Authalic.{Authalic}
 use Rattle.latitudes.specs.Latitude.{beta}
@@ -16,7 +17,7 @@ use Rattle.constants.proofs.SeriesLaws.{at-least, e4-size, J-high, seri
 use Rattle.parameters.proofs.AcceptedSet.{Accepted, accepted-fields, lat0-size}
 use Rattle.units.proofs.Spans.{Between}
 use Rattle.constants.proofs.ScaleLaws.{β0-size, D-between, e2-small, Rq-between}
-use Rattle.billionths.proofs.Calls.{back, product-is, quotient-is}
+use Rattle.billionths.proofs.Calls.{back, back-is, product-is, quotient-is}
 use Rattle.constants.proofs.constants_of.Statement.{statement}
 use Rattle.constants.proofs.constants_of.Tie as tie
 
@@ -37,15 +38,18 @@ from-series c = from-radius (c .before)
 abbrev from-authalic : tie.After-to-authalic → tie.Start
 from-authalic c = from-series (c .before)
 
-abbrev from-cosine : tie.After-cosine → tie.Start
-from-cosine c = from-authalic (c .before)
+abbrev from-sines : tie.After-sine-cosine → tie.Start
+from-sines c = from-authalic (c .before)
+
+abbrev sines-at-axis : tie.After-axis-ratio → tie.After-sine-cosine
+sines-at-axis c = c .before .before
 
 abbrev from-axis : tie.After-axis-ratio → tie.Start
-from-axis c = from-cosine (c .before)
+from-axis c = from-sines (sines-at-axis c)
 
 -- and the calls whose results are taken again later
-abbrev radius-at-cosine : tie.After-cosine → tie.After-radius-ratio
-radius-at-cosine c = c .before .before .before
+abbrev radius-at-sines : tie.After-sine-cosine → tie.After-radius-ratio
+radius-at-sines c = c .before .before .before
 
 abbrev axis-at-product3 : tie.After-product3 → tie.After-axis-ratio
 axis-at-product3 c = c .before .before
@@ -53,20 +57,11 @@ axis-at-product3 c = c .before .before
 abbrev from-product3 : tie.After-product3 → tie.Start
 from-product3 c = from-axis (axis-at-product3 c)
 
-abbrev cosine-at-product3 : tie.After-product3 → tie.After-cosine
-cosine-at-product3 c = axis-at-product3 c .before
-
-abbrev authalic-at-product3 : tie.After-product3 → tie.After-to-authalic
-authalic-at-product3 c = cosine-at-product3 c .before
-
-abbrev from-sine : tie.After-sine → tie.Start
-from-sine c = from-product3 (c .before)
+abbrev sines-at-product3 : tie.After-product3 → tie.After-sine-cosine
+sines-at-product3 c = sines-at-axis (axis-at-product3 c)
 
 abbrev from-product4 : tie.After-product4 → tie.Start
-from-product4 c = from-sine (c .before)
-
-abbrev product3-at-product4 : tie.After-product4 → tie.After-product3
-product3-at-product4 c = c .before .before
+from-product4 c = from-product3 (c .before)
 
 abbrev from-quotient : tie.After-quotient → tie.Start
 from-quotient c = from-product4 (c .before)
@@ -136,19 +131,24 @@ unfolding β0
     let start = from-authalic c in
     rw (β0-is c) (β0-size (start .args .p .e2) (start .args .p .lat0) (e2-size start) (φ0-size start))
 
-cosine-requires : tie.Need-cosine-requires
-cosine-requires c κs = (from-authalic c .pre .0, β0-within c)
+sine-cosine-requires : tie.Need-sine-cosine-requires
+sine-cosine-requires c κs = (from-authalic c .pre .0, β0-within c)
 
-c0-is : (c : tie.After-cosine) → let p = from-cosine c .args .p in back (c .cosine .result) ≡ C0 (p .e2) (p .lat0)
+s0-is : (c : tie.After-sine-cosine) → let p = from-sines c .args .p in back (c .sine-cosine .result .sine) ≡ S0 (p .e2) (p .lat0)
+unfolding S0
+s0-is c = back-is (c .sine-cosine .ensures .0 ∙ ap (λ (b : Authalic). sine (b .0)) (β0-is (c .before))) (sine-size _) (lit< tt)
+
+c0-is : (c : tie.After-sine-cosine) → let p = from-sines c .args .p in back (c .sine-cosine .result .cosine) ≡ C0 (p .e2) (p .lat0)
 unfolding C0
-c0-is c = returned (c .cosine .ok) ∙ c .cosine .ensures ∙ ap (λ (b : Authalic). cosine (b .0)) (β0-is (c .before))
+c0-is c = back-is (c .sine-cosine .ensures .1 ∙ ap (λ (b : Authalic). cosine (b .0)) (β0-is (c .before))) (cosine-size _) (lit< tt)
 
 -- ---- D and Rq
 
 axis-ratio-requires : tie.Need-axis-ratio-requires
 axis-ratio-requires c κs =
-    let start = from-cosine c in
-    rw (e2-is start) (start .pre .0, e2-size start, set start .lat0-accepted, j-is (radius-at-cosine c), c0-is c)
+    let sines = c .before in
+    let start = from-sines sines in
+    rw (e2-is start) (start .pre .0, e2-size start, set start .lat0-accepted, j-is (radius-at-sines sines), c0-is sines)
 
 d-is : (c : tie.After-axis-ratio) → let p = from-axis c .args .p in back (c .axis-ratio .result) ≡ D (p .e2) (p .lat0)
 d-is c =
@@ -161,38 +161,31 @@ product-requires-3 : tie.Need-product-requires-3
 product-requires-3 c κs =
     let axis = c .before in
     let start = from-axis axis in
-    rw (a-is start, j-is (radius-at-cosine (axis .before)))
+    rw (a-is start, j-is (radius-at-sines (sines-at-axis axis)))
     (omega (arith, set start .a-between .most), omega (arith, J-high (start .args .p .e2) (e2-size start)))
 
 rq-is : (c : tie.After-product3) → back (c .product3 .result) ≡ Rq (from-product3 c .args .p)
 unfolding Rq
-rq-is c = product-is (c .product3 .ok) (c .product3 .ensures) (a-is (from-product3 c)) (j-is (radius-at-cosine (cosine-at-product3 c)))
+rq-is c = product-is (c .product3 .ok) (c .product3 .ensures) (a-is (from-product3 c)) (j-is (radius-at-sines (sines-at-product3 c)))
 
 -- ---- the fields
 
-sine-requires : tie.Need-sine-requires
-sine-requires c κs = (from-product3 c .pre .0, β0-within (authalic-at-product3 c))
-
-s0-is : (c : tie.After-sine) → let p = from-sine c .args .p in back (c .sine .result) ≡ S0 (p .e2) (p .lat0)
-unfolding S0
-s0-is c = returned (c .sine .ok) ∙ c .sine .ensures ∙ ap (λ (b : Authalic). sine (b .0)) (β0-is (authalic-at-product3 (c .before)))
-
 product-requires-4 : tie.Need-product-requires-4
 product-requires-4 c κs =
-    let start = from-sine c in
-    rw (rq-is (c .before), d-is (axis-at-product3 (c .before)))
+    let start = from-product3 c in
+    rw (rq-is c, d-is (axis-at-product3 c))
     (omega (arith, Rq-between (start .args .p) (set start) .most), omega (arith, d-between start .most))
 
 rd-is : (c : tie.After-product4) → back (c .product4 .result) ≡ RD (from-product4 c .args .p)
 unfolding RD
 rd-is c =
-    let before = product3-at-product4 c in
+    let before = c .before in
     product-is (c .product4 .ok) (c .product4 .ensures) (rq-is before) (d-is (axis-at-product3 before))
 
 quotient-requires : tie.Need-quotient-requires
 quotient-requires c κs =
     let start = from-product4 c in
-    let before = product3-at-product4 c in
+    let before = c .before in
     let d = d-between start in
     rw (rq-is before, d-is (axis-at-product3 before))
     (omega (arith, Rq-between (start .args .p) (set start) .most), at-least 1 (d .natural) (omega arith), omega arith)
@@ -200,20 +193,15 @@ quotient-requires c κs =
 rn-is : (c : tie.After-quotient) → back (c .quotient .result) ≡ RN (from-quotient c .args .p)
 unfolding RN
 rn-is c =
-    let before = product3-at-product4 (c .before) in
+    let before = c .before .before in
     quotient-is (c .quotient .ok) (c .quotient .ensures) (rq-is before) (d-is (axis-at-product3 before))
 
 returns : tie.Need-returns
 unfolding constantsOf
 returns c =
-    let before = product3-at-product4 (c .before) in
-    rw (
-      series-is (authalic-at-product3 before .before),
-      s0-is (c .before .before),
-      c0-is (cosine-at-product3 before),
-      rd-is (c .before),
-      rn-is c,
-    )
+    let quotient = c .before in
+    let sines = sines-at-product3 (quotient .before .before) in
+    rw (series-is (sines .before .before), s0-is sines, c0-is sines, rd-is (quotient .before), rn-is quotient)
 
 pub constants-of-spec : {M : Type 1} → statement M
 constants-of-spec =
@@ -224,10 +212,9 @@ constants-of-spec =
     radius-ratio-requires
     series-requires
     to-authalic-requires
-    cosine-requires
+    sine-cosine-requires
     axis-ratio-requires
     product-requires-3
-    sine-requires
     product-requires-4
     quotient-requires
     returns)
