@@ -1,6 +1,6 @@
 // The angle of two numbers, document 01, "Sine and angle": found by a search over the angles from 0 to
 // 90°. Every function takes the table lent: see sine_table::table.
-use integers::FIRST_MARGIN;
+use integers::WIDENED_BY;
 use integers::WIDENING;
 use integers::excess;
 use sine_table::Table;
@@ -72,7 +72,7 @@ fn search_near(t: &Table, p: u64, q: u64, estimate: u64, margin: u64) -> u64
     if is_bracketed(t, p, q, low, high) {
         return search(t, p, q, low, high);
     }
-    search_near(t, p, q, estimate, WIDENING * margin + FIRST_MARGIN)
+    search_near(t, p, q, estimate, WIDENING * margin + WIDENED_BY)
 }
 
 // What one test at an angle tells.

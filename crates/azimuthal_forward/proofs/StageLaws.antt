@@ -31,14 +31,6 @@ use Rattle.azimuthal_forward.specs.Answer.{on-globe, nearness, forwardFa
 use Rattle.azimuthal_forward.specs.Stages.{refusedBefore, beforeRoot, AfterRoot, afterRoot}
 use Rattle.azimuthal_forward.proofs.ForwardLaws.{u-size, w-size, G-size, H-least, H-most}
 
--- an answer by its number: the refusal where that is not 0, else what is given
-pub is-refused : {A : Type 0} (refuse : ℕ → A) (given : A) (n : ℕ) → (n ≡ 0 → ⊥) → answered refuse n given ≡ refuse n
-is-refused refuse given zero some = absurd (some refl)
-is-refused refuse given (suc n) some = refl
-
-pub is-given : {A : Type 0} (refuse : ℕ → A) (given : A) (n : ℕ) → n ≡ 0 → answered refuse n given ≡ given
-is-given refuse given n none = rw none
-
 -- what the root and the steps after it ask of a direction
 record Bounded (d : Direction) : Type 0 where
   pub u-size : natAbs (d .u) ≤ 2_000_000_000

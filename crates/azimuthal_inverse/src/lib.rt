@@ -94,7 +94,7 @@ fn answered_early(refusal: u8, origin: bool) -> PlanePoint
     }
 }
 
-// The point for dE and dN.
+// The point dE east and dN north of the false origin.
 fn reduced(k: Constants, de: i64, dn: i64) -> PlanePoint
     requires { ⌜ OfAcceptedSet k ⌝ }
     ensures { λ r. ⌜ r ≡ reducedOf k de dn ⌝ }

@@ -1,5 +1,5 @@
 // The geodetic latitude of an authalic one, found by a search over all latitudes.
-use integers::FIRST_MARGIN;
+use integers::WIDENED_BY;
 use integers::WIDENING;
 use integers::excess;
 use integers::near;
@@ -76,7 +76,7 @@ fn search_near(t: &Table, k: AuthalicSeries, beta: Authalic, estimate: u64, marg
     if is_bracketed(t, k, beta, low, high) {
         return search(t, k, beta, low, high);
     }
-    search_near(t, k, beta, estimate, WIDENING * margin + FIRST_MARGIN)
+    search_near(t, k, beta, estimate, WIDENING * margin + WIDENED_BY)
 }
 
 // One radian, in mas.

@@ -1,7 +1,8 @@
 -- The facts that a search for the greatest number from 0 to n that passes a test needs of its numbers, over any test and any n.
 -- By halves: where the middle passes, the upper half holds the greatest; where it fails, all above it fail and the lower half holds it.
 -- Either half is shorter. About an estimate: a span that does not hold the greatest is not all of 0 to n, so its margin is below n, and the
--- wider margin leaves less of n. Assumes nothing.
+-- wider margin leaves less of n. A span of one: the greatest itself, once it is settled, is a span to search, and its greatest is that of all.
+-- Assumes nothing.
 use mathlib.Core.Path.{_≡_, refl, sym, ap, _∙_, subst}
 use mathlib.Core.Bool.{Bool, true, false, not}
 use mathlib.Core.Logic.{_⊎_, inl, inr}

@@ -6,10 +6,10 @@ ghost use Rattle.integers.specs.Near.{near, nearest, signed};
 ghost use Rattle.integers.specs.Root.{root};
 ghost use Rattle.integers.specs.Rounds.{nextDigit};
 
-// A search about an estimate: the margin that is tried after another is WIDENING times it and FIRST_MARGIN more.
+// A search about an estimate: the margin that is tried after another is WIDENING times it and WIDENED_BY more.
 pub const WIDENING: u64 = 16;
 
-pub const FIRST_MARGIN: u64 = 4;
+pub const WIDENED_BY: u64 = 4;
 
 // The size of n; that of the least i64 is 2^63, which a u64 holds.
 pub fn magnitude(n: i64) -> u64

@@ -1,6 +1,6 @@
 -- Laws of sums of three terms by sines that are only nearly right. Such a sum differs from the definition's by what the sines differ by, each
--- with its coefficient. Where less than half of U is left between it and y·U after that, the definition's rounds to y, because no other whole
--- number is within half of its U-th part. Assumes nothing.
+-- with its coefficient. Where that and its distance from y·U are together less than half of U, the definition's rounds to y, because no other
+-- whole number is within half of its U-th part. Assumes nothing.
 use mathlib.Core.Path.{_≡_, sym, _∙_}
 use mathlib.Core.Bool.{Bool, true}
 use mathlib.Core.List.{[], _∷_}

@@ -44,14 +44,6 @@ impl Geodetic {
 }
 
 impl Authalic {
-    pub fn sine(self, t: &Table) -> i64
-        requires { ⌜ IsTable (now t) × (natAbs (self .0) ≤ right-angle) ⌝ }
-        ensures { λ r. ⌜ r ≡ sineOf (self .0) ⌝ }
-    {
-        let beta = self.0;
-        sine(t, beta)
-    }
-
     pub fn cosine(self, t: &Table) -> i64
         requires { ⌜ IsTable (now t) × (natAbs (self .0) ≤ right-angle) ⌝ }
         ensures { λ r. ⌜ r ≡ cosineOf (self .0) ⌝ }
@@ -60,7 +52,7 @@ impl Authalic {
         cosine(t, beta)
     }
 
-    // Both at once.
+    // Its sine and cosine at once.
     pub fn sine_cosine(self, t: &Table) -> SineCosine
         requires { ⌜ IsTable (now t) × (natAbs (self .0) ≤ right-angle) ⌝ }
         ensures { λ r. ⌜ (r .sine ≡ sineOf (self .0)) × (r .cosine ≡ cosineOf (self .0)) ⌝ }
@@ -103,7 +95,7 @@ pub fn weighted_sum(k2: i64, k4: i64, k6: i64, a: u64, b: u64, c: u64) -> u64
     a * two + b * four + c * six
 }
 
-// A sine by a line is at most the first, and one by the minute at most the second, from the sine.
+// A sine by a line is at most LINE_ERROR from the sine, and one by the minute at most MINUTE_ERROR.
 const LINE_ERROR: u64 = 12;
 
 const MINUTE_ERROR: u64 = 295_000;

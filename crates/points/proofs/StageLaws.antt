@@ -2,7 +2,7 @@
 -- where one fails, its refusal is the answer, whatever the steps say of 0 and 0. The laws are over both directions. Assumes nothing.
 use mathlib.Core.Path.{_≡_, refl, sym, _∙_}
 use mathlib.Core.Bool.{Bool, true, false}
-use Prim.Native.Nat.{ℕ, zero, suc}
+use Prim.Native.Nat.{ℕ}
 use lib.IntN.{ℤ}
 use mir.Syntax.{w64}
 use mir.Val.{SFits}
@@ -30,11 +30,6 @@ use Rattle.points.specs.Points.{forwardDegrees, inverseMetres}
 use Rattle.points.specs.Stages.{tested, wholeDegrees, wholeMetres, metresUnless, degreesUnless}
 use Rattle.points.proofs.AnswerLaws.{forward-not-finite, forward-beyond, forward-converted}
 use Rattle.points.proofs.AnswerLaws.{inverse-not-finite, inverse-beyond, inverse-converted}
-
--- a refusal stands before what was worked out
-pub refused-first : {A : Type 0} (refuse : ℕ → A) (given : A) (n : ℕ) → (n ≡ 0 → ⊥) → answered refuse n given ≡ refuse n
-refused-first refuse given zero some = absurd (some refl)
-refused-first refuse given (suc n) some = refl
 
 -- the tests of a pair that is x, y in whole units, by what they say
 module _ (finite inside : Bool) (x y : ℤ) where

@@ -1,4 +1,4 @@
-// One point: degrees to metres and back.
+// One point, or two at a time: degrees to metres and back.
 use azimuthal_forward::PlaneAnswer;
 use azimuthal_forward::forward_point;
 use azimuthal_forward::forward_points;

@@ -1,4 +1,5 @@
--- The sine in a minute as the code works it out: two divisions of whole numbers, rounded down, are the paper's one rounding. Assumes nothing.
+-- The sine in a minute as the code works it out: two divisions of whole numbers, rounded down, are the paper's one rounding; and how far the
+-- sine is from the straight line and from the minute before. Assumes nothing.
 use mathlib.Core.Path.{_≡_, sym, ap, ap₂, _∙_, subst}
 use mathlib.Core.Logic.{_⊎_, inl, inr}
 use Prim.Native.Nat.{ℕ, suc, _+_, _-_, _*_, _/_, _%_, _<_, _≤_}
@@ -27,6 +28,11 @@ two-steps w = omega arith
 pub rise-small : (k : ℕ) → k < 5400 → rise-of k ≤ most-rise
 unfolding rise-of
 rise-small k h = omega (arith, step k h)
+
+pub rise-product : (r k x m : ℕ) → r ≡ rise-of k → k < 5400 → x ≤ m → r * x ≤ most-rise * m
+rise-product r k x m e h l =
+    let small : r ≤ most-rise = rw e (rise-small k h) in
+    mul-le-mul small l
 
 pub product-small : (r : ℕ) → r ≤ minute → r * (minute - r) ≤ most-product
 product-small r h =

@@ -1,6 +1,6 @@
 -- The laws of sine and cosine, for every integer angle: what the other crates know of them. Each is true from 0 to 90° by the laws of the
 -- first quarter, and at every angle because a quarter turn exchanges sine and cosine but for a sign. Nothing above this file looks into the
--- table or between its minutes. Assumes nothing.
+-- table or between its minutes, but for `angles`, whose search is from 0 to 90° and whose test takes the rises over a minute. Assumes nothing.
 use mathlib.Core.Path.{_≡_, refl, sym, ap, _∙_}
 use mathlib.Core.List.{[], _∷_}
 use Prim.Native.Nat.{ℕ, zero, suc, _+_, _-_, _*_, _<_, _≤_}

@@ -1,4 +1,4 @@
--- The sine from 0 to 90°, on natural numbers: never falling, its step, its slope from below, and sine² + cosine². Each follows from what is known
+-- The sine from 0 to 90°, on natural numbers: never falling, its most and its least step, its slope from below, and sine² + cosine². Each follows from what is known
 -- of one minute (Minute.antt), of the arc over it (Arc.antt) and of the table. Assumes nothing.
 use mathlib.Core.Path.{_≡_, refl, sym, ap, ap₂, _∙_, subst₂}
 use mathlib.Core.Logic.{_⊎_, inl, inr}
@@ -197,9 +197,9 @@ quarter-at-most {θ} h =
     let last : first-quarter right-angle ≡ unit = quarter-minute 5400 ∙ entry-last in
     rw last at (quarter-mono h (le-refl right-angle))
 
-gap-up : (k : ℕ) → k < 5400 → entry k + rise-of k ≡ entry (suc k)
+rise-up : (k : ℕ) → k < 5400 → entry k + rise-of k ≡ entry (suc k)
 unfolding rise-of
-gap-up k h = omega (arith, rises k h)
+rise-up k h = omega (arith, rises k h)
 
 -- a numerator as a point of the arc, seen from either end
 from-start : (q r s e : ℕ) → q + r ≡ minute → s * scale + (e * r * per-mas + curve * (s * (r * q))) ≡ per-mas * (q * s + r * (s + e)) + curve * (q * r) * s
@@ -220,18 +220,18 @@ module _ (k r j q : ℕ) (both : k + j ≡ 5399) (whole : q + r ≡ minute) wher
   before = omega arith
 
   start-on-circle : OnCircle (entry k) (entry j + rise-of j)
-  start-on-circle = rw (gap-up j j-inside) (rw before at (circle k (le-of-lt k-inside)))
+  start-on-circle = rw (rise-up j j-inside) (rw before at (circle k (le-of-lt k-inside)))
 
   end-on-circle : OnCircle (entry k + rise-of k) (entry j)
   end-on-circle =
       let e : 5400 - suc k ≡ j = omega arith in
-      rw (gap-up k k-inside) (rw e at (circle (suc k) k-inside))
+      rw (rise-up k k-inside) (rw e at (circle (suc k) k-inside))
 
   bent : Arc (entry k) (entry k + rise-of k) (rise-of k) (entry j + rise-of j) (entry j) (rise-of j)
   unfolding rise-of
   bent =
       let f : 5399 - k ≡ j = omega arith in
-      rw (gap-up k k-inside, gap-up j j-inside) (rw f at (rw before at (arc k k-inside)))
+      rw (rise-up k k-inside, rise-up j j-inside) (rw f at (rw before at (arc k k-inside)))
 
   small : entry k * entry k + entry j * entry j ≤ 2 * (unit * unit)
   small =

@@ -1,4 +1,5 @@
--- Inner: the correction between two minutes as the code adds it to the straight line. The paper's own fraction is in Sine.antt.
+-- Inner: the rise over a minute, and the correction between two minutes as the code adds it to the straight line. The paper's own fraction is in
+-- Sine.antt.
 use Prim.Native.Nat.{ℕ, suc, _-_, _*_, _/_}
 use Rattle.units.specs.Units.{minute}
 use Rattle.sine_table.specs.Table.{entry}

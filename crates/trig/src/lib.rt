@@ -90,8 +90,8 @@ pub struct QuarterPair {
     pub cosine: u64,
 }
 
-// Those of the angle r mas past minute k. As many mas before 90° it is 60,000 − r mas past minute 5399 − k, so
-// both have one product.
+// Those of the angle r mas past minute k. 90° less it is 60,000 − r mas past minute 5399 − k, so both have one
+// product.
 pub fn quarter_pair(t: &Table, k: u64, r: u64) -> QuarterPair
     requires { ⌜ IsTable (now t) × (k < quarter-minutes) × (r < minute) ⌝ }
     ensures { λ s. ⌜ (s .sine ≡ first-quarter (k * minute + r)) × (s .cosine ≡ first-quarter (right-angle - (k * minute + r))) ⌝ }
@@ -156,7 +156,7 @@ pub struct SineCosine {
     pub cosine: i64,
 }
 
-// 90° itself has no minute after it.
+// Those of an angle from 0 to 90°. 90° itself has no minute after it.
 fn folded_pair(t: &Table, theta: u64) -> QuarterPair
     requires { ⌜ IsTable (now t) × (theta ≤ right-angle) ⌝ }
     ensures { λ s. ⌜ (s .sine ≡ first-quarter theta) × (s .cosine ≡ first-quarter (right-angle - theta)) ⌝ }

@@ -14,6 +14,14 @@ module _ {A B : Type 0} (tell : A → B) (refuse : ℕ → A) where
 pub and-told : {A B : Type 0} {r right : A} (tell : A → B) {said : B} → tell right ≡ said → r ≡ right → (r ≡ right) × (tell r ≡ said)
 and-told tell tells is = (is, ap tell is ∙ tells)
 
+-- a number that is not 0 is the refusal; with 0 the answer is what is given
+pub is-refused : {A : Type 0} (refuse : ℕ → A) (given : A) (n : ℕ) → (n ≡ 0 → ⊥) → answered refuse n given ≡ refuse n
+is-refused refuse given zero some = absurd (some refl)
+is-refused refuse given (suc n) some = refl
+
+pub is-given : {A : Type 0} (refuse : ℕ → A) (given : A) (n : ℕ) → n ≡ 0 → answered refuse n given ≡ given
+is-given refuse given n none = rw none
+
 -- where the set is refused, so is the call
 pub set-refused :
     {A : Type 0} (refuse : ℕ → A) (given : A) (set next n : ℕ) →

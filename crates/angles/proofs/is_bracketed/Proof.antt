@@ -1,4 +1,4 @@
--- `trig::is_bracketed` meets its contract: the angles that are under are those up to the greatest, so the greatest is from `low`
+-- `angles::is_bracketed` meets its contract: the angles that are under are those up to the greatest, so the greatest is from `low`
 -- on where `low` is under, and up to `high` where the angle after it is not, or is past 90°. Assumes nothing.
 use borrow.Author.Needs.{needs}
 use Rattle.integers.proofs.Search.{low-fails, top-reached, next-tested}

@@ -1,4 +1,4 @@
--- `trig::is_under` meets its contract: from 0 to 90° sine and cosine are those of the first quarter, so the code compares what the
+-- `angles::is_under` meets its contract: from 0 to 90° sine and cosine are those of the first quarter, so the code compares what the
 -- definition does. Neither is above U, and with p and q up to their limit both products are within 64 bits. Assumes nothing.
 use borrow.Author.Needs.{needs}
 use mathlib.Core.Path.{sym, ap₂, _∙_}

@@ -1,4 +1,4 @@
--- `trig::ratio` meets its contract: the numerator is at most 2^14 times the denominator, which is not 0. Assumes nothing.
+-- `angles::ratio` meets its contract: the numerator is at most 2^14 times the denominator, which is not 0. Assumes nothing.
 use borrow.Author.Needs.{needs}
 use Prim.Native.Nat.{_+_}
 use native.Mathlib.Nat.{div-le-of-le-mul}

@@ -4,13 +4,13 @@ use borrow.Author.Needs.{needs}
 use mathlib.Core.Path.{_≡_, sym, ap, ap₂, _∙_}
 use mathlib.Core.Bool.{Bool, true, false, cond}
 use Prim.Native.Nat.{ℕ, _+_, _-_, _*_, _/_, _%_, _<_, _≤_}
-use native.Mathlib.Nat.{mul-le-mul, div-add-mod'}
+use native.Mathlib.Nat.{div-add-mod'}
 use native.Mathlib.Omega.{arith}
 use lib.Dec.{leb}
 use Rattle.units.specs.Units.{unit, minute, right-angle}
 use Rattle.trig.specs.Sine.{quarter-minutes, first-quarter}
 use Rattle.trig.specs.Correction.{most-rise, rise-of}
-use Rattle.trig.proofs.Fraction.{rise-small}
+use Rattle.trig.proofs.Fraction.{rise-product}
 use Rattle.angles.specs.Angle.{angle-limit}
 use Rattle.angles.specs.Trial.{over}
 use Rattle.angles.proofs.Angles.{product-small}
@@ -66,19 +66,14 @@ rise-requires : tie.Need-rise-requires
 rise-requires c κs = search needs
 
 -- the rises over the two minutes
-fall-small : (r n x : ℕ) → r ≡ rise-of n → n < quarter-minutes → x ≤ angle-limit → r * x ≤ most-rise * angle-limit
-fall-small r n x e h l =
-    let small : r ≤ most-rise = rw e (rise-small n h) in
-    mul-le-mul small l
-
 abbrev pair-at-rise : tie.After-rise → tie.After-quarter-pair
 pair-at-rise c = c .before .before .before
 
 sine-fall : (c : tie.After-rise) → c .rise .result * p (pair-at-rise c) ≤ most-rise * angle-limit
-sine-fall c = let b = pair-at-rise c in fall-small _ _ (p b) (c .rise .ensures) (below b) (start b .pre .0 .p-size)
+sine-fall c = let b = pair-at-rise c in rise-product _ _ (p b) angle-limit (c .rise .ensures) (below b) (start b .pre .0 .p-size)
 
 cosine-fall : (c : tie.After-rise2) → c .rise2 .result * q (pair-at-rise (c .before)) ≤ most-rise * angle-limit
-cosine-fall c = let b = pair-at-rise (c .before) in fall-small _ _ (q b) (c .rise2 .ensures) (omega (arith, below b)) (start b .pre .0 .q-size)
+cosine-fall c = let b = pair-at-rise (c .before) in rise-product _ _ (q b) angle-limit (c .rise2 .ensures) (omega (arith, below b)) (start b .pre .0 .q-size)
 
 mul-fall : tie.Need-mul-fall
 mul-fall c = record { fits = omega (arith, sine-fall c) }

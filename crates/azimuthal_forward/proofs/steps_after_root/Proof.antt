@@ -12,7 +12,7 @@ use Rattle.constants.proofs.ConstantsLaws.{Sound, sound-as}
 use Rattle.billionths.proofs.Calls.{back}
 use Rattle.azimuthal_forward.specs.declared.PlaneAnswer.the-variants.{Plane, Refused}
 use Rattle.azimuthal_forward.specs.Stages.{afterRoot}
-use Rattle.azimuthal_forward.proofs.StageLaws.{is-refused, is-given}
+use Rattle.units.proofs.AnswerLaws.{is-refused, is-given}
 use Rattle.azimuthal_forward.proofs.steps_after_root.Statement.{statement}
 use Rattle.azimuthal_forward.proofs.steps_after_root.Tie as tie
 

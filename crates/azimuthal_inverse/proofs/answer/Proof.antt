@@ -1,11 +1,11 @@
 -- `answer` meets its contract: each return is a case of the definition. Assumes nothing.
-use mathlib.Core.Path.{_≡_, refl, _∙_}
-use Prim.Native.Nat.{ℕ, zero, suc, _≤_}
+use mathlib.Core.Path.{_≡_, sym, _∙_}
+use Prim.Native.Nat.{_≤_}
 use lib.Dec.{lit<}
 use lib.IntN.{natAbs}
 use Rattle.proof_kit.proofs.Range.{kept}
 use Rattle.units.specs.Units.{half-turn}
-use Rattle.units.specs.Answers.{answered}
+use Rattle.units.proofs.AnswerLaws.{is-refused}
 use Rattle.billionths.proofs.Calls.{back}
 use Rattle.parameters.proofs.AcceptedSet.{accepted-fields}
 use Rattle.constants.proofs.ConstantsLaws.{sound-as}
@@ -20,14 +20,9 @@ lon0-small s = accepted-fields _ (s .pre .0 .set-accepted) .lon0-size
 lon0-read : (s : tie.Start) → back (s .args .p .lon0) ≡ s .args .p .lon0
 lon0-read s = kept _ (lon0-small s) (lit< tt)
 
--- a number that is not 0 is the refusal
-refused : {A : Type 0} (refuse : ℕ → A) (given : A) (n : ℕ) → (n ≡ 0 → ⊥) → refuse n ≡ answered refuse n given
-refused refuse given zero some = absurd (some refl)
-refused refuse given (suc n) some = refl
-
 returns : tie.Need-returns
 unfolding answerOf
-returns c = refused Refused _ (c .before .args .q .refusal) (c .if1 .taken)
+returns c = sym (is-refused Refused _ (c .before .args .q .refusal) (c .if1 .taken))
 
 returns-2 : tie.Need-returns-2
 unfolding answerOf

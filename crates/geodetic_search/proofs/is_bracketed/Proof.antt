@@ -1,4 +1,4 @@
--- `latitudes::is_bracketed` meets its contract: β never falls, so the latitudes whose β is not above the one given are those up to the
+-- `is_bracketed` meets its contract: β never falls, so the latitudes whose β is not above the one given are those up to the
 -- greatest. That is from `low` on where `low` is one, and up to `high` where the latitude after it is not, or is past the North Pole. Assumes nothing.
 use borrow.Author.Needs.{needs}
 use Rattle.integers.proofs.Search.{low-fails, top-reached, next-tested}

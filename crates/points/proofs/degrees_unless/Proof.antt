@@ -2,12 +2,12 @@
 use borrow.Author.Needs.{needs}
 use mathlib.Core.Path.{sym}
 use Rattle.pairs.specs.declared.GeodeticPairAnswer.the-variants.{Refused}
-use Rattle.points.proofs.StageLaws.{refused-first}
+use Rattle.units.proofs.AnswerLaws.{is-refused}
 use Rattle.points.proofs.degrees_unless.Statement.{statement}
 use Rattle.points.proofs.degrees_unless.Tie as tie
 
 returns : tie.Need-returns
-returns c = sym (refused-first Refused _ _ (c .if1 .taken))
+returns c = sym (is-refused Refused _ _ (c .if1 .taken))
 
 in-degrees-requires : tie.Need-in-degrees-requires
 in-degrees-requires c κs = search needs

@@ -2,14 +2,14 @@
 use borrow.Author.Needs.{needs}
 use mathlib.Core.Path.{_≡_, sym, ap, _∙_}
 use Prim.Native.Nat.{ℕ, _*_, _/_, _%_, _<_, _≤_}
-use native.Mathlib.Nat.{le-of-lt, mul-le-mul}
+use native.Mathlib.Nat.{le-of-lt}
 use native.Mathlib.Omega.{arith}
 use Rattle.units.specs.Units.{minute, right-angle}
 use Rattle.sine_table.specs.Table.{entry}
 use Rattle.sine_table.proofs.Laws.{entry-at-most}
 use Rattle.trig.specs.Sine.{quarter-minutes, first-quarter}
 use Rattle.trig.specs.Correction.{most-rise}
-use Rattle.trig.proofs.Fraction.{rise-small, near-line}
+use Rattle.trig.proofs.Fraction.{rise-product, near-line}
 use Rattle.trig.proofs.Quarter.{quarter-minute}
 use Rattle.trig.proofs.quarter_line.Statement.{statement}
 use Rattle.trig.proofs.quarter_line.Tie as tie
@@ -42,8 +42,7 @@ module _ (c : tie.After-rise) where
   product-small : c .rise .result * (θ % minute) ≤ most-rise * minute
   product-small =
       let part : θ % minute ≤ minute = omega arith in
-      let gap : c .rise .result ≤ most-rise = rw (c .rise .ensures) (rise-small (θ / minute) below) in
-      mul-le-mul gap part
+      rise-product (c .rise .result) (θ / minute) (θ % minute) minute (c .rise .ensures) below part
 
 mul-result : tie.Need-mul-result
 mul-result c = record { fits = omega (arith, product-small c) }
