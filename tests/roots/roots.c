@@ -1,7 +1,8 @@
 /*
  * The integer root of the archive beside "greatest whole number whose square is at most n", tested in 128
- * bits, and beside the square root of the C library with its fraction dropped. Prints how many numbers were
- * compared; ends with 1 at the first that differs.
+ * bits, and beside the square root of the C library with its fraction dropped. Each root is also taken in a
+ * pair, first and second, with the number before. Prints how many numbers were compared; ends with 1 at the
+ * first that differs.
  */
 #define _XOPEN_SOURCE 700
 #include <float.h>
@@ -12,6 +13,8 @@
 #include <stdlib.h>
 
 uint64_t root_of(uint64_t n);
+uint64_t first_of(uint64_t n, uint64_t m);
+uint64_t second_of(uint64_t n, uint64_t m);
 
 __extension__ typedef unsigned __int128 wide;
 
@@ -29,9 +32,12 @@ static uint64_t by_library(uint64_t n) { return (uint64_t)sqrtl((long double)n);
 
 static void compare(uint64_t n)
 {
+    static uint64_t before;
     uint64_t r = root_of(n);
     int greatest = square_at_most(r, n) && !square_at_most(r + 1, n);
-    if (!greatest || r != by_library(n)) {
+    int paired = first_of(n, before) == r && second_of(before, n) == r;
+    before = n;
+    if (!greatest || !paired || r != by_library(n)) {
         printf("root(%" PRIu64 ") is %" PRIu64 ", not %" PRIu64 "\n", n, r, by_library(n));
         exit(1);
     }
