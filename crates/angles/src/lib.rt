@@ -1,5 +1,7 @@
 // The angle of two numbers, document 01, "Sine and angle": found by a search over the angles from 0 to
 // 90°. Every function takes the table lent: see sine_table::table.
+#![tactic(auto)]
+
 ghost use Rattle.std.specs.Prelude.{◌≡◌, ◌≤◌};
 ghost use Rattle.integers.specs.Greatest.{greatest};
 ghost use Rattle.integers.specs.InnerSearch.{bracketed, Span, About};

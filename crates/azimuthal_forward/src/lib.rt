@@ -1,4 +1,6 @@
 // From geodetic latitude and longitude to easting and northing, in whole units.
+#![tactic(auto)]
+
 ghost use Rattle.std.specs.Prelude.{◌≡◌, ◌≤◌, ◌*◌, pos, nat_abs, ◌+ℤ◌, ◌*ℤ◌, ◌≤ℤ◌};
 ghost use Rattle.integers.specs.Near.{near as nearOf};
 ghost use Rattle.sine_table.specs.Table.{IsTable};

@@ -1,4 +1,6 @@
 // From easting and northing back to geodetic latitude and longitude, in whole units.
+#![tactic(auto)]
+
 ghost use Rattle.std.specs.Prelude.{◌≡◌, ◌≤◌, nat_abs};
 ghost use Rattle.integers.specs.Root.{root};
 ghost use Rattle.units.specs.Units.{half_turn};

@@ -1,4 +1,6 @@
 // Arithmetic of numbers counted in billionths, rounded once.
+#![tactic(auto)]
+
 ghost use Rattle.std.specs.Prelude.{◌≡◌, ◌≤◌, pos, nat_abs, ◌+ℤ◌, ◌-ℤ◌, ◌*ℤ◌, ◌≤ℤ◌};
 ghost use Rattle.integers.specs.Near.{near as nearOf};
 ghost use Rattle.integers.specs.Root.{root as rootOf};

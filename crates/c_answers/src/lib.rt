@@ -1,4 +1,6 @@
 // What a call for C writes and returns, from what the library's answer tells.
+#![tactic(auto)]
+
 ghost use Rattle.std.specs.Prelude.{◌≡◌};
 ghost use Rattle.grid_codes.specs.Codes.{written_told};
 ghost use Rattle.code_reading.specs.Reading.{read_told};

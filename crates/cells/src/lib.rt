@@ -1,4 +1,6 @@
 // The cell of a position: document 01, "Cells", with the cell number of document 02, b). Sides and coordinates are in cm.
+#![tactic(auto)]
+
 ghost use Rattle.std.specs.Prelude.{◌≡◌, true, pos, nat_abs};
 ghost use Rattle.cells.specs.Cells.{accepted_side, cell_number, top, numbers_refusal, cell_of, cell_told, told_of_cell};
 

@@ -1,4 +1,6 @@
 // Reads the code of a cell in the INSPIRE geographical grid systems: document 02, c). Sides are in cm.
+#![tactic(auto)]
+
 ghost use Rattle.std.specs.Prelude.{◌≡◌, true};
 ghost use Rattle.cells.specs.Cells.{accepted_side};
 ghost use Rattle.code_reading.specs.Reading.{side_named, cell_numeral, numbers_of, code_of, read_told, told_of_text};

@@ -1,4 +1,6 @@
 // Runs examples of grid codes and prints what the library answers; the gate holds it to `stdout`.
+#![tactic(auto)]
+
 mod reading;
 mod writing;
 

@@ -1,5 +1,7 @@
 // Degrees and metres, document 01: doubles to whole units and back, and the tests of a coordinate.
 // Whole units are milliarcseconds (mas), centimetres (cm) and, for powers, nanowatts.
+#![tactic(auto)]
+
 ghost use Rattle.std.specs.Prelude.{◌≡◌, ◌≤◌, true};
 ghost use Rattle.std.specs.Float.{binary64};
 ghost use Rattle.std.specs.Float.Ieee.{of_int};

@@ -1,5 +1,7 @@
 // How far an answer in whole numbers is from the one expected: what decides whether a row of `vectors` ends in "ok",
 // and the numbers that it says it is off by.
+#![tactic(auto)]
+
 ghost use Rattle.std.specs.Prelude.{◌≡◌, ◌<◌, ◌≤◌, nat_abs, ◌-ℤ◌};
 ghost use Rattle.units.specs.Units.{unit};
 ghost use Rattle.gaps.specs.InnerGaps.{gaps_of, cap, capped, part, on_ground, is_right};

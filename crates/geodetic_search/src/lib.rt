@@ -1,4 +1,6 @@
 // The geodetic latitude of an authalic one, found by a search over all latitudes.
+#![tactic(auto)]
+
 ghost use Rattle.std.specs.Prelude.{true, ◌≡◌, ◌≤◌, nat_abs};
 ghost use Rattle.integers.specs.Greatest.{greatest};
 ghost use Rattle.integers.specs.InnerSearch.{bracketed, Span, About};

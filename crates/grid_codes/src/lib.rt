@@ -1,4 +1,6 @@
 // Writes the code of a cell in the INSPIRE geographical grid systems: document 02, c). Sides are in cm.
+#![tactic(auto)]
+
 ghost use Rattle.std.specs.Prelude.{◌≡◌, true, ◌≤◌, length};
 ghost use Rattle.cells.specs.Cells.{accepted_side};
 ghost use Rattle.text.specs.Pasting.{Put};

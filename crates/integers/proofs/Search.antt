@@ -10,7 +10,7 @@ use Prim.Native.Nat.{ℕ, ◌+◌, ◌-◌, ◌*◌, ◌/◌, ◌<◌, ◌≤◌
 use native.Mathlib.Nat.{le_refl, le_trans}
 use native.Mathlib.Omega.{arith}
 use lib.Dec.{leb}
-use borrow.Author.Tests.{leb-true, leb-false, le-leb, lt-leb, not_true, not-false}
+use borrow.Author.Tests.{leb-true, leb-false, le-leb, lt-leb, not-true, not-false}
 use Rattle.proof_kit.proofs.Order.{le_or_lt}
 use Rattle.integers.specs.Greatest.{greatest}
 use Rattle.integers.specs.InnerSearch.{bracketed, Span, About}
@@ -49,7 +49,7 @@ module _
 
   pub low_fails : not r ≡ true → false ≡ bracketed test n low high
   unfolding bracketed
-  low_fails e = rw (low_side (not_true r e))
+  low_fails e = rw (low_side (not-true r e))
 
   pub top_reached : not r ≡ false → high ≡ n → true ≡ bracketed test n low high
   unfolding bracketed

@@ -1,4 +1,6 @@
 // Reads lines from standard input and answers each on standard output, for ETRS-LAEA in whole units.
+#![tactic(auto)]
+
 ghost use Rattle.parameters.specs.ParameterSet.{etrs_laea};
 ghost use Rattle.constants.specs.InnerPrepared.{Prepared};
 ghost use Rattle.splitter.specs.Splitting.{IsCarried};

@@ -1,4 +1,6 @@
 // One line of text in, one line of answer out, for ETRS-LAEA in whole units: document 01, "The program".
+#![tactic(auto)]
+
 ghost use Rattle.std.specs.Prelude.{◌≡◌, ◌+◌, ◌≤◌, length};
 ghost use Rattle.text.specs.Pasting.{Put};
 ghost use Rattle.parameters.specs.ParameterSet.{etrs_laea};

@@ -1,4 +1,6 @@
 // Pairs of f64, the answers that carry them, and their tests and conversions.
+#![tactic(auto)]
+
 ghost use Rattle.std.specs.Prelude.{◌≡◌};
 ghost use Rattle.pairs.specs.Pairs.{are_finite, within_globe, within_plane, in_metres, in_degrees, plane_row, geodetic_row};
 

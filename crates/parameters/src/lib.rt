@@ -1,4 +1,6 @@
 // The parameter set, its accepted limits and the named set ETRS-LAEA.
+#![tactic(auto)]
+
 ghost use Rattle.std.specs.Prelude.{◌≡◌};
 ghost use Rattle.parameters.specs.ParameterSet.{accepted_a, accepted_e2, polar, accepted_lat0, accepted_lon0, accepted_false, set_refusal, etrs_laea};
 

@@ -1,5 +1,7 @@
 // Lists of points: degrees to metres and back. Each call lends two inputs, two outputs and a list
 // of marks.
+#![tactic(auto)]
+
 ghost use Rattle.std.specs.Prelude.{◌≡◌};
 ghost use Rattle.row_lists.specs.Rows.{forward_at, inverse_at};
 ghost use Rattle.row_lists.specs.InnerRows.{row_of};

@@ -1,5 +1,7 @@
 // Runs examples in degrees and metres, one by one and in lists, and prints what the library answers; the gate holds it
 // to `stdout`.
+#![tactic(auto)]
+
 mod degrees_and_metres;
 mod doubles;
 mod list_rows;

@@ -1,4 +1,6 @@
 // One point, or two at a time: degrees to metres and back.
+#![tactic(auto)]
+
 ghost use Rattle.std.specs.Prelude.{◌≡◌};
 ghost use Rattle.constants.specs.InnerPrepared.{Prepared};
 ghost use Rattle.pairs.specs.Pairs.{plane_row, geodetic_row};

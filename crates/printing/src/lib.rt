@@ -1,5 +1,7 @@
 // Writes what rows are made of to standard output; a number has a space before it. Each function gives back what it was
 // given to write: no contract can say what is written. Which line of a text it is, is what `line_text` requires.
+#![tactic(auto)]
+
 pub mod words;
 
 ghost use Rattle.std.specs.Prelude.{◌≡◌, ◌+◌, ◌≤◌, length, drop};

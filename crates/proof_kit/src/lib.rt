@@ -1,4 +1,6 @@
 // The proof kit: laws of signed integers for the proofs of the other crates, in proofs/. The functions here are its tests.
+#![tactic(auto)]
+
 ghost use Rattle.std.specs.Prelude.{◌≡◌, ◌+◌, ◌/◌, ◌≤◌, pos, negsuc, ◌+ℤ◌, ◌-ℤ◌, ◌*ℤ◌, neg_ℤ, nat_abs, ◌≤ℤ◌};
 
 // One coordinate of a point turned by an angle with cosine c and sine s.

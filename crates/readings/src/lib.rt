@@ -1,4 +1,6 @@
 // A power reading: document 02, e). Powers are in milliwatts as f64, and counted in whole nanowatts.
+#![tactic(auto)]
+
 ghost use Rattle.std.specs.Prelude.{◌≡◌};
 ghost use Rattle.readings.specs.Readings.{power_of, power_refusal, reading_refusal, nanowatts_of};
 

@@ -1,4 +1,6 @@
 // What a line of the program is answered, as text: document 01, "The program".
+#![tactic(auto)]
+
 ghost use Rattle.std.specs.Prelude.{◌+◌, ◌≤◌, length};
 ghost use Rattle.text.specs.Pasting.{Put};
 ghost use Rattle.replies.specs.Replies.{reply_text};

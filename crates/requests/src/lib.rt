@@ -1,4 +1,6 @@
 // What a line of the program asks for: document 01, "The program".
+#![tactic(auto)]
+
 ghost use Rattle.std.specs.Prelude.{◌≡◌};
 ghost use Rattle.requests.specs.Requests.{by_letter, by_fields, request_of};
 

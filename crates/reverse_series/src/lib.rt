@@ -1,4 +1,6 @@
 // Document 001's reverse series, for a program to compare with the latitude of the inverse steps.
+#![tactic(auto)]
+
 ghost use Rattle.std.specs.Prelude.{◌≡◌, ◌<◌, ◌≤◌, nat_abs, ◌+ℤ◌, ◌*ℤ◌};
 ghost use Rattle.integers.specs.Near.{near as nearOf};
 ghost use Rattle.units.specs.Units.{right_angle};

@@ -1,4 +1,6 @@
 // Demand 3: the round trip. The statement is in specs/RoundTrip.antt, its proof in proofs/.
+#![tactic(auto)]
+
 ghost use Rattle.std.specs.Prelude.{◌≡◌};
 ghost use Rattle.azimuthal_forward.specs.Answer.{forward_of};
 ghost use Rattle.round_trip.specs.RoundTrip.{there_and_back, MeetsDemand3};

@@ -1,4 +1,6 @@
 // Writes the rows of points into lists, and counts those that are accepted.
+#![tactic(auto)]
+
 ghost use Rattle.std.specs.Prelude.{◌≡◌, ◌<◌, length, set};
 ghost use Rattle.constants.specs.InnerPrepared.{Prepared};
 ghost use Rattle.row_lists.specs.Rows.{rows, first_values, second_values, marks as marks_of, zeros};

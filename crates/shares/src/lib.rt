@@ -1,4 +1,6 @@
 // The share of a tally's slots that each of two control loops has: when a loop gets a new slot, and which.
+#![tactic(auto)]
+
 ghost use Rattle.std.specs.Prelude.{◌≡◌, cond, ◌-◌};
 ghost use Rattle.shares.specs.Shares.{of_loop, held_in, sure_slots, granted, new_slot};
 

@@ -1,5 +1,7 @@
 // Table T: the sine of each whole minute from 0 to 5400, in parts of U = 1,000,000,000. What its values are is said in
 // specs/Table.antt, and what follows from that in proofs/Laws.antt.
+#![tactic(auto)]
+
 mod minutes;
 
 ghost use Rattle.sine_table.specs.Table.{IsTable};

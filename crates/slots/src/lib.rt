@@ -1,4 +1,6 @@
 // The slots of a tally: which cell of a loop has one, which is free, and a slot with one reading more.
+#![tactic(auto)]
+
 ghost use Rattle.std.specs.Prelude.{◌≡◌, false, ◌+◌, min};
 ghost use Rattle.readings.specs.Readings.{reading_refusal};
 ghost use Rattle.slots.specs.Slots.{empty_slot, free, same_cell, holds, index_of, full, greatest_sum, with_reading};

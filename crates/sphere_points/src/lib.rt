@@ -1,5 +1,7 @@
 // The point of the unit sphere that a point of the map stands for, and its latitude and longitude from the
 // centre's meridian.
+#![tactic(auto)]
+
 ghost use Rattle.std.specs.Prelude.{◌≡◌, cond, ◌-◌, ◌≤◌, pos, nat_abs, ◌≤ℤ◌};
 ghost use Rattle.integers.specs.Root.{root};
 ghost use Rattle.units.specs.Units.{right_angle, half_turn};

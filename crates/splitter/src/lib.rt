@@ -1,5 +1,7 @@
 // Cuts input that comes in pieces of any size into lines, and answers them. A line that a piece does
 // not end is carried to the next.
+#![tactic(auto)]
+
 ghost use Rattle.std.specs.Prelude.{◌≡◌, [], ◌++◌, ◌+◌, ◌*◌, ◌-◌, ◌≤◌, length, drop};
 ghost use Rattle.text.specs.Pasting.{Put};
 ghost use Rattle.parameters.specs.ParameterSet.{etrs_laea};

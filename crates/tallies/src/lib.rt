@@ -1,4 +1,6 @@
 // A running tally of power per cell of two control loops: document 02, e) and f). A tally goes in by value, and the next one comes back.
+#![tactic(auto)]
+
 ghost use Rattle.std.specs.Prelude.{◌≡◌, ◌<◌, set};
 ghost use Rattle.tallies.specs.Tallies.{is_loop, named_refusal, made, added, cleared, read_from, sums_in};
 

@@ -1,4 +1,6 @@
 // Runs histories of calls on tallies and prints what the library answers; the gate holds it to `stdout`.
+#![tactic(auto)]
+
 mod edges;
 mod few;
 mod many;

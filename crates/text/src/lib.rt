@@ -1,4 +1,6 @@
 // Bytes of ASCII text: whole numbers read from them and written into them.
+#![tactic(auto)]
+
 ghost use Rattle.std.specs.Prelude.{◌≡◌, ◌+◌, ◌≤◌, length};
 ghost use Rattle.text.specs.Ascii.{same_text};
 ghost use Rattle.text.specs.Numbers.{leading_zero, unsigned_of, number_of, decimal, number_text, labelled, pair_text};

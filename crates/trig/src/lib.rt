@@ -1,5 +1,7 @@
 // Sine and cosine of documents 01 and 02, g), on whole numbers: angles in milliarcseconds (mas), sines in
 // billionths. Every function takes the table lent: see sine_table::table.
+#![tactic(auto)]
+
 ghost use Rattle.std.specs.Prelude.{◌≡◌, ◌+◌, ◌-◌, ◌*◌, ◌/◌, ◌<◌, ◌≤◌, ◌^◌, nat_abs, ◌-ℤ◌};
 ghost use Rattle.sine_table.specs.Table.{IsTable, entry};
 ghost use Rattle.units.specs.Units.{unit, minute, right_angle};

@@ -1,5 +1,7 @@
 // What every layer shares: the units that angles, lengths and ratios are counted in, the refusal numbers,
 // and the tests of whether a number is within its limits.
+#![tactic(auto)]
+
 pub mod answers;
 pub mod refusals;
 

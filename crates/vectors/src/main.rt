@@ -1,4 +1,6 @@
 // Runs the papers' examples in whole units and prints what the library answers; the gate holds it to `stdout`.
+#![tactic(auto)]
+
 mod bad_input;
 mod bad_sets;
 mod cell_rows;

@@ -1,4 +1,6 @@
 // Runs some thousands of round trips over sets of every aspect and prints the worst gaps; the gate holds it to `stdout`.
+#![tactic(auto)]
+
 mod gaps;
 mod positions;
 mod sets;

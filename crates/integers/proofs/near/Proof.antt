@@ -33,9 +33,9 @@ unfolding near
 returns c =
     let start = c.before.before.before in
     let rounded = c.before.nearest.ensures ∙ ap (λ (k : ℕ). nearest k start.args.d) (size c.before.before) in
-    returned c.signed.type-inv
+    returned c.signed.type_inv
     ∙ c.signed.ensures
     ∙ ap₂ (λ (z : ℤ) (k : ℕ). signed (lt_z z (pos 0)) k) (to_z-of_z start.ranges.n) rounded
 
-pub near-spec : {M : Type 1} → statement M
-near-spec = tie.close (tie.spec magnitude-requires nearest-requires signed-requires returns)
+pub near_spec : {M : Type 1} → statement M
+near_spec = tie.close (tie.spec magnitude-requires nearest-requires signed-requires returns)

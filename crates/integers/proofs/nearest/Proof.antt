@@ -5,14 +5,14 @@ use Rattle.integers.proofs.Rounding.{nearest_halved}
 use Rattle.integers.proofs.nearest.Statement.{statement}
 use Rattle.integers.proofs.nearest.Tie as tie
 
-add-result : tie.Need-overflow-add-result
+add-result : tie.Need-overflow_add-result
 add-result c = search rules
 
-div-result : tie.Need-nonzero-div-result
+div-result : tie.Need-nonzero_div-result-2
 div-result c = search rules
 
 returns : tie.Need-returns
 returns c = nearest_halved c.args.n c.args.d c.requires.0
 
-pub nearest-spec : {M : Type 1} → statement M
-nearest-spec = tie.close (tie.spec add-result div-result returns)
+pub nearest_spec : {M : Type 1} → statement M
+nearest_spec = tie.close (tie.spec add-result div-result returns)

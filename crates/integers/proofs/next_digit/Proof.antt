@@ -5,22 +5,22 @@ use Rattle.integers.specs.Rounds.{next_digit}
 use Rattle.integers.proofs.next_digit.Statement.{statement}
 use Rattle.integers.proofs.next_digit.Tie as tie
 
-add-trial : tie.Need-overflow-add-trial
+add-trial : tie.Need-overflow_add-trial
 add-trial c = search rules
 
-add-trial-2 : tie.Need-overflow-add-trial-2
+add-trial-2 : tie.Need-overflow_add-trial-2
 add-trial-2 c = search rules
 
-add-t9 : tie.Need-overflow-add-t9
+add-t9 : tie.Need-overflow_add-result
 add-t9 c = search rules
 
-returns : tie.Need-returns
+returns : tie.Need-returns-then-trial-n
 unfolding next_digit
-returns c = rw (le-leb _ _ c.if1.true)
+returns c = rw (le-leb _ _ c.if-trial-n.true)
 
-returns-2 : tie.Need-returns-2
+returns-2 : tie.Need-returns-else-trial-n
 unfolding next_digit
-returns-2 c = rw (lt-leb _ _ c.if1.false)
+returns-2 c = rw (lt-leb _ _ c.if-trial-n.false)
 
-pub next-digit-spec : {M : Type 1} → statement M
-next-digit-spec = tie.close (tie.spec add-trial add-trial-2 add-t9 returns returns-2)
+pub next_digit_spec : {M : Type 1} → statement M
+next_digit_spec = tie.close (tie.spec add-trial add-trial-2 add-t9 returns returns-2)

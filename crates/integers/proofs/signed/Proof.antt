@@ -6,17 +6,17 @@ use Rattle.integers.proofs.Signs.{negated_fits, negated_is}
 use Rattle.integers.proofs.signed.Statement.{statement}
 use Rattle.integers.proofs.signed.Tie as tie
 
-cast-z : tie.Need-overflow-cast-z
+cast-z : tie.Need-overflow_cast-z
 cast-z c = search rules
 
-sub-result : tie.Need-overflow-sub-result
+sub-result : tie.Need-overflow_sub-result
 sub-result c = negated_fits c.before.args.size c.before.requires
 
-returns : tie.Need-returns
-returns c = rw c.if1.true (negated_is c.before.args.size c.before.requires)
+returns : tie.Need-returns-then-negative
+returns c = rw c.if-negative.true (negated_is c.before.args.size c.before.requires)
 
-returns-2 : tie.Need-returns-2
-returns-2 c = rw c.if1.false (to_z_pos w64 c.before.requires)
+returns-2 : tie.Need-returns-else-negative
+returns-2 c = rw c.if-negative.false (to_z_pos w64 c.before.requires)
 
-pub signed-spec : {M : Type 1} → statement M
-signed-spec = tie.close (tie.spec cast-z sub-result returns returns-2)
+pub signed_spec : {M : Type 1} → statement M
+signed_spec = tie.close (tie.spec cast-z sub-result returns returns-2)

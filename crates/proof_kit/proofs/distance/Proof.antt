@@ -6,7 +6,7 @@ use Rattle.proof_kit.proofs.Size.{as_size}
 use Rattle.proof_kit.proofs.distance.Statement.{statement}
 use Rattle.proof_kit.proofs.distance.Tie as tie
 
-sub-magnitude : tie.Need-overflow-sub-magnitude
+sub-magnitude : tie.Need-overflow_sub-a
 sub-magnitude c = fits (search code depth 40 fits 20000) tt
 
 magnitude-requires : tie.Need-magnitude-requires
@@ -15,5 +15,5 @@ magnitude-requires c κs = rw as_size (read_size (search code depth 40 fits 2000
 returns : tie.Need-returns
 returns c = read (search held) tt ∙ (rw as_size at c.magnitude.ensures) ∙ ap pos (read_abs (search code depth 40 fits 20000) tt)
 
-pub distance-spec : {M : Type 1} → statement M
-distance-spec = tie.close (tie.spec sub-magnitude magnitude-requires returns)
+pub distance_spec : {M : Type 1} → statement M
+distance_spec = tie.close (tie.spec sub-magnitude magnitude-requires returns)

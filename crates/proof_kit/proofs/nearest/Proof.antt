@@ -8,13 +8,13 @@ use Rattle.proof_kit.proofs.Range.{code, fits, read, divisor, as_word}
 use Rattle.proof_kit.proofs.nearest.Statement.{statement}
 use Rattle.proof_kit.proofs.nearest.Tie as tie
 
-div-result : tie.Need-nonzero-div-result
+div-result : tie.Need-nonzero_div-result
 div-result c = (lit< tt, fits (search code depth 40 fits 20000) tt)
 
-add-result : tie.Need-overflow-add-result
+add-result : tie.Need-overflow_add-result
 add-result c = fits (search code depth 40 fits 20000) tt
 
-div-result-2 : tie.Need-nonzero-div-result-2
+div-result-2 : tie.Need-nonzero_div-result-2
 div-result-2 c =
     (rw as_word (divisor (search code depth 40 fits 20000) tt c.requires.2), fits (search code depth 40 fits 20000) tt)
 
@@ -26,5 +26,5 @@ of-naturals (negsuc a) d h k = absurd h.le
 returns : tie.Need-returns
 returns c = read (search code depth 40 fits 20000) tt ∙ of-naturals c.args.x c.args.d c.requires.0 c.requires.2
 
-pub nearest-spec : {M : Type 1} → statement M
-nearest-spec = tie.close (tie.spec div-result add-result div-result-2 returns)
+pub nearest_spec : {M : Type 1} → statement M
+nearest_spec = tie.close (tie.spec div-result add-result div-result-2 returns)

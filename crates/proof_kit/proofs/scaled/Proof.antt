@@ -9,17 +9,17 @@ use Rattle.proof_kit.proofs.Size.{as_size}
 use Rattle.proof_kit.proofs.scaled.Statement.{statement}
 use Rattle.proof_kit.proofs.scaled.Tie as tie
 
-cast-result : tie.Need-overflow-cast-result
+cast-result : tie.Need-overflow_cast-result
 cast-result c = search rules
 
-mul-result : tie.Need-overflow-mul-result
+mul-result : tie.Need-overflow_mul-result
 mul-result c = fits (search code depth 40 fits 20000) tt
 
-cast-result-2 : tie.Need-overflow-cast-result-2
+cast-result-2 : tie.Need-overflow_cast-result-2
 cast-result-2 c = rw (as_sign, as_size) (unsigned (search code depth 40 fits 20000) tt (search nonneg))
 
 returns : tie.Need-returns
 returns c = rw as_size (ap pos (read_abs (search code depth 40 fits 20000) tt) ∙ pos_abs (search nonneg))
 
-pub scaled-spec : {M : Type 1} → statement M
-scaled-spec = tie.close (tie.spec cast-result mul-result cast-result-2 returns)
+pub scaled_spec : {M : Type 1} → statement M
+scaled_spec = tie.close (tie.spec cast-result mul-result cast-result-2 returns)

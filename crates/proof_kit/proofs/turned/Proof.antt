@@ -3,17 +3,17 @@ use Rattle.proof_kit.proofs.Range.{code, fits, read}
 use Rattle.proof_kit.proofs.turned.Statement.{statement}
 use Rattle.proof_kit.proofs.turned.Tie as tie
 
-mul-result : tie.Need-overflow-mul-result
+mul-result : tie.Need-overflow_mul-result
 mul-result c = fits (search code depth 40 fits 20000) tt
 
-mul-result-2 : tie.Need-overflow-mul-result-2
+mul-result-2 : tie.Need-overflow_mul-result-2
 mul-result-2 c = fits (search code depth 40 fits 20000) tt
 
-sub-result : tie.Need-overflow-sub-result
+sub-result : tie.Need-overflow_sub-result
 sub-result c = fits (search code depth 40 fits 20000) tt
 
 returns : tie.Need-returns
 returns c = read (search code depth 40 fits 20000) tt
 
-pub turned-spec : {M : Type 1} → statement M
-turned-spec = tie.close (tie.spec mul-result mul-result-2 sub-result returns)
+pub turned_spec : {M : Type 1} → statement M
+turned_spec = tie.close (tie.spec mul-result mul-result-2 sub-result returns)
