@@ -7,13 +7,13 @@ use Rattle.billionths.proofs.Calls.{near_is}
 use Rattle.billionths.proofs.difference.Statement.{statement}
 use Rattle.billionths.proofs.difference.Tie as tie
 
-mul-near : tie.Need-overflow-mul-near
+mul-near : tie.Need-overflow_mul-a
 mul-near c = fits (search code depth 40 fits 20000) tt
 
-mul-near-2 : tie.Need-overflow-mul-near-2
+mul-near-2 : tie.Need-overflow_mul-c
 mul-near-2 c = fits (search code depth 40 fits 20000) tt
 
-sub-near : tie.Need-overflow-sub-near
+sub-near : tie.Need-overflow_sub-a
 sub-near c = fits (search code depth 40 fits 20000) tt
 
 near-requires : tie.Need-near-requires
@@ -22,7 +22,7 @@ near-requires c κs = (lit< tt, rw as_size (read_room 500_000_000 (search code d
 returns : tie.Need-returns
 returns c =
     let given = c.before.requires in
-    near_is c.near.type-inv unit c.near.ensures (read (search (code, given.0, given.1, given.2, given.3) depth 40 fits 20000) tt)
+    near_is c.near.type_inv unit c.near.ensures (read (search (code, given.0, given.1, given.2, given.3) depth 40 fits 20000) tt)
 
-pub difference-spec : {M : Type 1} → statement M
-difference-spec = tie.close (tie.spec mul-near mul-near-2 sub-near near-requires returns)
+pub difference_spec : {M : Type 1} → statement M
+difference_spec = tie.close (tie.spec mul-near mul-near-2 sub-near near-requires returns)

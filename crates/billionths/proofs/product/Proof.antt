@@ -7,7 +7,7 @@ use Rattle.billionths.proofs.Calls.{near_is}
 use Rattle.billionths.proofs.product.Statement.{statement}
 use Rattle.billionths.proofs.product.Tie as tie
 
-mul-near : tie.Need-overflow-mul-near
+mul-near : tie.Need-overflow_mul-a
 mul-near c = fits (search code depth 40 fits 20000) tt
 
 near-requires : tie.Need-near-requires
@@ -16,7 +16,7 @@ near-requires c κs = (lit< tt, rw as_size (read_room 500_000_000 (search code d
 returns : tie.Need-returns
 returns c =
     let given = c.before.requires in
-    near_is c.near.type-inv unit c.near.ensures (read (search (code, given.0, given.1) depth 40 fits 20000) tt)
+    near_is c.near.type_inv unit c.near.ensures (read (search (code, given.0, given.1) depth 40 fits 20000) tt)
 
-pub product-spec : {M : Type 1} → statement M
-product-spec = tie.close (tie.spec mul-near near-requires returns)
+pub product_spec : {M : Type 1} → statement M
+product_spec = tie.close (tie.spec mul-near near-requires returns)

@@ -14,10 +14,10 @@ use Rattle.units.specs.Units.{unit, U}
 use Rattle.billionths.proofs.quotient.Statement.{statement}
 use Rattle.billionths.proofs.quotient.Tie as tie
 
-mul-near : tie.Need-overflow-mul-near
+mul-near : tie.Need-overflow_mul-x
 mul-near c = fits (search code depth 40 fits 20000) tt
 
-cast-near : tie.Need-overflow-cast-near
+cast-near : tie.Need-overflow_cast-y
 cast-near c = rw (as_sign, as_size) (unsigned (search code depth 40 fits 20000) tt (omega (order, c.requires.1)))
 
 near-requires : tie.Need-near-requires
@@ -31,9 +31,9 @@ near-requires c κs =
 returns : tie.Need-returns
 returns c =
     let start = c.before in
-    returned c.near.type-inv
+    returned c.near.type_inv
     ∙ c.near.ensures
     ∙ ap₂ (λ (z y : ℤ). near z (nat_abs y)) (read (search code depth 40 fits 20000) tt) (kept start.args.y start.requires.2 (lit< tt))
 
-pub quotient-spec : {M : Type 1} → statement M
-quotient-spec = tie.close (tie.spec mul-near cast-near near-requires returns)
+pub quotient_spec : {M : Type 1} → statement M
+quotient_spec = tie.close (tie.spec mul-near cast-near near-requires returns)

@@ -13,10 +13,10 @@ use Rattle.units.specs.Units.{U}
 use Rattle.billionths.proofs.unit_root.Statement.{statement}
 use Rattle.billionths.proofs.unit_root.Tie as tie
 
-mul-root : tie.Need-overflow-mul-root
+mul-root : tie.Need-overflow_mul-x
 mul-root c = fits (search code depth 40 fits 20000) tt
 
-cast-root : tie.Need-overflow-cast-root
+cast-root : tie.Need-overflow_cast-x
 cast-root c = rw (as_sign, as_size) (unsigned (search code depth 40 fits 20000) tt (search nonneg))
 
 root-requires : tie.Need-root-requires
@@ -30,11 +30,11 @@ root-size c =
     let x : ℤ = c.before.args.x in
     rw (root_is c) (root_most (nat_abs (x *ℤ U)) 2_000_000_000 (rw (abs_mul x U) (omega arith)))
 
-cast-result : tie.Need-overflow-cast-result
+cast-result : tie.Need-overflow_cast-result
 cast-result c = record { sfits = omega (arith, root-size c) }
 
 returns : tie.Need-returns
 returns c = read (search (code, root-size c) depth 40 fits 20000) tt ∙ ap pos (root_is c)
 
-pub unit-root-spec : {M : Type 1} → statement M
-unit-root-spec = tie.close (tie.spec mul-root cast-root root-requires cast-result returns)
+pub unit_root_spec : {M : Type 1} → statement M
+unit_root_spec = tie.close (tie.spec mul-root cast-root root-requires cast-result returns)

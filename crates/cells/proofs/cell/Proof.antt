@@ -25,24 +25,24 @@ abbrev back : ℤ → ℤ
 back z = to_z w64 (of_z w64 z)
 
 -- where the code stands: past the test of the side, and at its start
-abbrev side_left : tie.Else2 → tie.Else1
+abbrev side_left : tie.Else-not-is_on_plane → tie.Else-not-is_side
 side_left c = c.before.before
 
-abbrev start : tie.Else1 → tie.Start
+abbrev start : tie.Else-not-is_side → tie.Start
 start c = c.before.before
 
 -- ---- the tests, of the numbers as they were passed on
 
-side-is : (c : tie.After-is-side) → c.is-side.result ≡ accepted_side c.before.args.side
-side-is c = c.is-side.ensures ∙ ap accepted_side (to_z-of_z c.before.ranges.side)
+side-is : (c : tie.After-is_side) → c.is_side.result ≡ accepted_side c.before.args.side
+side-is c = c.is_side.ensures ∙ ap accepted_side (to_z-of_z c.before.ranges.side)
 
-side-ok : (c : tie.Else1) → accepted_side (start c).args.side ≡ true
-side-ok c = sym (side-is c.before) ∙ not-false c.before.is-side.result c.if1.false
+side-ok : (c : tie.Else-not-is_side) → accepted_side (start c).args.side ≡ true
+side-ok c = sym (side-is c.before) ∙ c.if-not-is_side.false
 
-plane-is : (c : tie.After-is-on-plane) → let a = (start c.before).args in c.is-on-plane.result ≡ on_plane a.easting a.northing
+plane-is : (c : tie.After-is_on_plane) → let a = (start c.before).args in c.is_on_plane.result ≡ on_plane a.easting a.northing
 plane-is c =
     let f = (start c.before).ranges in
-    c.is-on-plane.ensures ∙ ap₂ on_plane (to_z-of_z f.easting) (to_z-of_z f.northing)
+    c.is_on_plane.ensures ∙ ap₂ on_plane (to_z-of_z f.easting) (to_z-of_z f.northing)
 
 -- ---- the returns
 
@@ -50,30 +50,30 @@ plane-is c =
 promised : {r : CellAnswer} (side E N : ℤ) → cell_of side E N ≡ r → (r ≡ cell_of side E N) × (cell_told r ≡ told_of_cell side E N)
 promised side E N e = and_told cell_told (cell_tells side E N) (sym e)
 
-is-side-requires : tie.Need-is-side-requires
+is-side-requires : tie.Need-is_side-requires
 is-side-requires c κs = search rules
 
-returns : tie.Need-returns
+returns : tie.Need-returns-then-not-is_side
 returns c =
-    let fails = sym (side-is c.before) ∙ not-true c.before.is-side.result c.if1.true in
+    let fails = sym (side-is c.before) ∙ c.if-not-is_side.true in
     promised _ _ _ (side_refused _ _ _ fails)
 
-is-on-plane-requires : tie.Need-is-on-plane-requires
+is-on-plane-requires : tie.Need-is_on_plane-requires
 is-on-plane-requires c κs = search rules
 
-returns-2 : tie.Need-returns-2
+returns-2 : tie.Need-returns-then-not-is_on_plane
 returns-2 c =
-    let fails = sym (plane-is c.before) ∙ not-true c.before.is-on-plane.result c.if2.true in
+    let fails = sym (plane-is c.before) ∙ c.if-not-is_on_plane.true in
     promised _ _ _ (position_refused _ _ _ (side-ok c.before.before) fails)
 
 -- the side, as it is passed on
-side-passed : (c : tie.Else2) → accepted_side (back (start (side_left c)).args.side) ≡ true
+side-passed : (c : tie.Else-not-is_on_plane) → accepted_side (back (start (side_left c)).args.side) ≡ true
 side-passed c = ap accepted_side (to_z-of_z (start (side_left c)).ranges.side) ∙ side-ok (side_left c)
 
-cell-number-requires : tie.Need-cell-number-requires
+cell-number-requires : tie.Need-cell_number-requires
 cell-number-requires c κs = side-passed c
 
-cell-number-requires-2 : tie.Need-cell-number-requires-2
+cell-number-requires-2 : tie.Need-cell_number-requires-2
 cell-number-requires-2 c κs = side-passed c.before
 
 -- the number of a call whose arguments were passed on
@@ -86,17 +86,17 @@ number_is :
     back r ≡ cell_number (nat_abs side) z
 number_is ok e f g = returned ok ∙ e ∙ rw (f, g)
 
-returns-3 : tie.Need-returns-3
+returns-3 : tie.Need-returns
 returns-3 c =
     let left = c.before.before in
     let f = (start (side_left left)).ranges in
-    let east = number_is c.before.cell-number.type-inv c.before.cell-number.ensures (to_z-of_z f.side) (to_z-of_z f.easting) in
-    let north = number_is c.cell-number2.type-inv c.cell-number2.ensures (to_z-of_z f.side) (to_z-of_z f.northing) in
-    let passes = sym (plane-is left.before) ∙ not-false left.before.is-on-plane.result left.if2.false in
+    let east = number_is c.before.cell_number.type_inv c.before.cell_number.ensures (to_z-of_z f.side) (to_z-of_z f.easting) in
+    let north = number_is c.cell_number-2.type_inv c.cell_number-2.ensures (to_z-of_z f.side) (to_z-of_z f.northing) in
+    let passes = sym (plane-is left.before) ∙ left.if-not-is_on_plane.false in
     promised _ _ _ (cell_accepted _ _ _ (side-ok (side_left left)) passes ∙ sym (ap₂ Cell east north))
 
-pub cell-spec : {M : Type 1} → statement M
-cell-spec =
+pub cell_spec : {M : Type 1} → statement M
+cell_spec =
     tie.close
     (tie.spec
     is-side-requires

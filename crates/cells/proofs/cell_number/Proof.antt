@@ -40,22 +40,22 @@ module _ (s : tie.Start) where
   z' = to_z w64 (of_z w64 z)
 
   some : 0 < nat_abs side
-  some = side_some side s.pre
+  some = side_some side s.requires
 
   most : nat_abs side ≤ 1_000_000
-  most = side_most side s.pre
+  most = side_most side s.requires
 
   natural : pos (nat_abs side) ≡ side
-  natural = side_natural side s.pre
+  natural = side_natural side s.requires
 
   positive : pos 1 ≤ℤ side
   positive = subst (λ (d : ℤ). pos 1 ≤ℤ d) natural (pos-≤ℤ some)
 
   back : (f : ℤ → ℤ → ℤ) → f z' side' ≡ f z side
-  back f = ap₂ f (to_z-of_z s.fits.coordinate) (to_z-of_z s.fits.side)
+  back f = ap₂ f (to_z-of_z s.ranges.coordinate) (to_z-of_z s.ranges.side)
 
   quotient-small : nat_abs (quot_z z' side') ≤ 2 ^ 62
-  quotient-small = rw (back quot_z, abs_quot z side) (few (nat_abs z) (nat_abs side) (size_fits z s.fits.coordinate) (side_above_1 side s.pre))
+  quotient-small = rw (back quot_z, abs_quot z side) (few (nat_abs z) (nat_abs side) (size_fits z s.ranges.coordinate) (side_above_1 side s.requires))
 
   rest-small : nat_abs (rem_z z' side') ≤ 1_000_000
   rest-small =
@@ -75,33 +75,33 @@ module _ (s : tie.Start) where
       (subst (λ (d : ℤ). pos 0 ≤ℤ rem_z z d → quot_z z d ≡ cell_number (nat_abs side) z) natural
       (λ h. sym (number_is (nat_abs side) some _ z (whole_cell (nat_abs side) some z h))))
 
-div-whole : tie.Need-nonzero-div-whole
+div-whole : tie.Need-nonzero_div-whole
 div-whole c =
     let size = most c in
     let small = quotient-small c in
     (rw as_word (divisor (search code depth 40 fits 20000) tt (positive c)), fits (search code depth 40 fits 20000) tt)
 
-rem-if1 : tie.Need-nonzero-rem-if1
+rem-if1 : tie.Need-nonzero_rem-coordinate
 rem-if1 = div-whole
 
-sub-result : tie.Need-overflow-sub-result
+sub-result : tie.Need-overflow_sub-result
 sub-result c =
     let small = quotient-small c.before in
     fits (search code depth 40 fits 20000) tt
 
-returns : tie.Need-returns
+returns : tie.Need-returns-then-coordinate-side-lt0
 returns c =
     let small = quotient-small c.before in
     let rest = rest-small c.before in
-    let below = lt_taken (rw as_lt at c.if1.true) (search code depth 40 fits 20000) (search code depth 40 fits 20000) tt in
+    let below = lt_taken (rw as_lt at c.if-coordinate-side-lt0.true) (search code depth 40 fits 20000) (search code depth 40 fits 20000) tt in
     read (search code depth 40 fits 20000) tt ∙ lower c.before below
 
-returns-2 : tie.Need-returns-2
+returns-2 : tie.Need-returns-else-coordinate-side-lt0
 returns-2 c =
     let small = quotient-small c.before in
     let rest = rest-small c.before in
-    let above = lt_left (rw as_lt at c.if1.false) (search code depth 40 fits 20000) (search code depth 40 fits 20000) tt in
+    let above = lt_left (rw as_lt at c.if-coordinate-side-lt0.false) (search code depth 40 fits 20000) (search code depth 40 fits 20000) tt in
     read (search code depth 40 fits 20000) tt ∙ whole c.before above
 
-pub cell-number-spec : {M : Type 1} → statement M
-cell-number-spec = tie.close (tie.spec div-whole rem-if1 sub-result returns returns-2)
+pub cell_number_spec : {M : Type 1} → statement M
+cell_number_spec = tie.close (tie.spec div-whole rem-if1 sub-result returns returns-2)

@@ -20,13 +20,13 @@ use Rattle.cells.proofs.numbers_refusal.Tie as tie
 within-as : {low low' high high' z z' : ℤ} → low ≡ low' → high ≡ high' → z ≡ z' → within low high z ≡ within low' high' z'
 within-as {high = high} {z = z} l h e = ap (λ (x : ℤ). within x high z) l ∙ ap₂ (within _) h e
 
-side-is : (c : tie.After-is-side) → c.is-side.result ≡ accepted_side c.before.args.side
-side-is c = c.is-side.ensures ∙ ap accepted_side (to_z-of_z c.before.ranges.side)
+side-is : (c : tie.After-is_side) → c.is_side.result ≡ accepted_side c.before.args.side
+side-is c = c.is_side.ensures ∙ ap accepted_side (to_z-of_z c.before.ranges.side)
 
-side-ok : (c : tie.Else1) → accepted_side c.before.before.args.side ≡ true
-side-ok c = sym (side-is c.before) ∙ not-false c.before.is-side.result c.if1.false
+side-ok : (c : tie.Else-not-is_side) → accepted_side c.before.before.args.side ≡ true
+side-ok c = sym (side-is c.before) ∙ c.if-not-is_side.false
 
-module _ (c : tie.After-top-number) where
+module _ (c : tie.After-top_number-top) where
   abbrev start : tie.Start
   start = c.before.before.before
 
@@ -35,15 +35,15 @@ module _ (c : tie.After-top-number) where
 
   -- the top number as it is read back, and its opposite
   abbrev high : ℤ
-  high = to_z w64 (of_z w64 c.top-number.result)
+  high = to_z w64 (of_z w64 c.top_number-top.result)
 
   abbrev low : ℤ
   low = to_z w64 (of_z w64 (pos 0 -ℤ high))
 
-  top-is : c.top-number.result ≡ pos (top (nat_abs side))
-  top-is = c.top-number.ensures ∙ ap (λ (d : ℤ). pos (top (nat_abs d))) (to_z-of_z start.fits.side)
+  top-is : c.top_number-top.result ≡ pos (top (nat_abs side))
+  top-is = c.top_number-top.ensures ∙ ap (λ (d : ℤ). pos (top (nat_abs d))) (to_z-of_z start.ranges.side)
 
-  small : nat_abs c.top-number.result ≤ 500_000
+  small : nat_abs c.top_number-top.result ≤ 500_000
   small = rw top-is (top_most side (side-ok c.before))
 
   high_is : high ≡ pos (top (nat_abs side))
@@ -52,40 +52,40 @@ module _ (c : tie.After-top-number) where
   low-is : low ≡ neg_ℤ (pos (top (nat_abs side)))
   low-is = let size = small in read (search code depth 40 fits 20000) tt ∙ ap neg_ℤ top-is
 
-is-side-requires : tie.Need-is-side-requires
+is-side-requires : tie.Need-is_side-requires
 is-side-requires c κs = search rules
 
-returns : tie.Need-returns
+returns : tie.Need-returns-then-not-is_side
 unfolding numbers_refusal
-returns c = rw (sym (side-is c.before) ∙ not-true c.before.is-side.result c.if1.true)
+returns c = rw (sym (side-is c.before) ∙ c.if-not-is_side.true)
 
-top-number-requires : tie.Need-top-number-requires
+top-number-requires : tie.Need-top_number-top-requires
 top-number-requires c κs = ap accepted_side (to_z-of_z c.before.before.ranges.side) ∙ side-ok c
 
-sub-are-within : tie.Need-overflow-sub-are-within
+sub-are-within : tie.Need-overflow_sub-top
 sub-are-within c = let size = small c in fits (search code depth 40 fits 20000) tt
 
-sub-are-within-2 : tie.Need-overflow-sub-are-within-2
+sub-are-within-2 : tie.Need-overflow_sub-top-2
 sub-are-within-2 = sub-are-within
 
-are-within-requires : tie.Need-are-within-requires
+are-within-requires : tie.Need-are_within-requires
 are-within-requires c κs = search rules
 
 unless-requires : tie.Need-unless-requires
 unless-requires c κs = search rules
 
-returns-2 : tie.Need-returns-2
+returns-2 : tie.Need-returns
 unfolding numbers_refusal numbered
 returns-2 c =
     let at = c.before.before in
     let f = (start at).ranges in
     let tests =
-    c.before.are-within.ensures
+    c.before.are_within.ensures
     ∙ ap₂ ◌&&◌ (within-as (low-is at) (high_is at) (to_z-of_z f.east)) (within-as (low-is at) (high_is at) (to_z-of_z f.north)) in
     rw (side-ok at.before) (c.unless.ensures ∙ ap (λ (t : Bool). unless t out_of_limits 0) tests)
 
-pub numbers-refusal-spec : {M : Type 1} → statement M
-numbers-refusal-spec =
+pub numbers_refusal_spec : {M : Type 1} → statement M
+numbers_refusal_spec =
     tie.close
     (tie.spec
     is-side-requires

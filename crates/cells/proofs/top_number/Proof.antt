@@ -22,17 +22,17 @@ module _ (s : tie.Start) where
   quotient = quot_z (to_z w64 5_000_000_000) (to_z w64 (of_z w64 side))
 
   positive : pos 1 ≤ℤ side
-  positive = subst (λ (d : ℤ). pos 1 ≤ℤ d) (side_natural side s.pre) (pos-≤ℤ (side_some side s.pre))
+  positive = subst (λ (d : ℤ). pos 1 ≤ℤ d) (side_natural side s.requires) (pos-≤ℤ (side_some side s.requires))
 
   quotient_is : quotient ≡ pos (top (nat_abs side))
   quotient_is =
-      ap (quot_z (to_z w64 5_000_000_000)) (to_z-of_z s.fits.side)
-      ∙ of_each_side (λ side. quot_z (to_z w64 5_000_000_000) side ≡ pos (top (nat_abs side))) refl refl refl side s.pre
+      ap (quot_z (to_z w64 5_000_000_000)) (to_z-of_z s.ranges.side)
+      ∙ of_each_side (λ side. quot_z (to_z w64 5_000_000_000) side ≡ pos (top (nat_abs side))) refl refl refl side s.requires
 
   quotient-small : nat_abs quotient ≤ 500_000
-  quotient-small = rw quotient_is (top_most side s.pre)
+  quotient-small = rw quotient_is (top_most side s.requires)
 
-div-result : tie.Need-nonzero-div-result
+div-result : tie.Need-nonzero_div-result
 div-result c =
     let size = side_most (side c) c.requires in
     let small = quotient-small c in
@@ -43,5 +43,5 @@ returns c =
     let small = quotient-small c in
     read (search code depth 40 fits 20000) tt ∙ quotient_is c
 
-pub top-number-spec : {M : Type 1} → statement M
-top-number-spec = tie.close (tie.spec div-result returns)
+pub top_number_spec : {M : Type 1} → statement M
+top_number_spec = tie.close (tie.spec div-result returns)

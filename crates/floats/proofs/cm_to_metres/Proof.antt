@@ -13,5 +13,5 @@ returns : tie.Need-returns
 unfolding of_bits of_int
 returns c = out_is metre c.before.ranges.n c.double.ensures
 
-pub cm-to-metres-spec : {M : Type 1} → statement M
-cm-to-metres-spec = tie.close (tie.spec double-requires returns)
+pub cm_to_metres_spec : {M : Type 1} → statement M
+cm_to_metres_spec = tie.close (tie.spec double-requires returns)

@@ -10,22 +10,22 @@ i32-holds : (z : ℤ) → le_z (negsuc 2_147_483_647) z ≡ true → le_z z (pos
 i32-holds (pos a) least most = record { sfits = omega (arith, leb-true a 2_147_483_647 most) }
 i32-holds (negsuc a) least most = record { sfits = omega (arith, leb-true a 2_147_483_647 least) }
 
-cast-result : tie.Need-overflow-cast-result
-cast-result c = i32-holds _ c.before.if1.true c.if2.true
+cast-result : tie.Need-overflow_cast-result
+cast-result c = i32-holds _ c.before.if-n-ge-I32_LEAST.true c.if-n-le-I32_MOST.true
 
-int-to-float-result : tie.Need-int-to-float-result
+int-to-float-result : tie.Need-int_to_float-result
 int-to-float-result c = search rules
 
-returns : tie.Need-returns
+returns : tie.Need-returns-then-n-le-I32_MOST
 returns c = ap (of_int binary64) (to_z-of_z (cast-result c.before) ∙ to_z-of_z c.before.before.before.ranges.n)
 
-nearest-i64-to-f64-requires : tie.Need-nearest-i64-to-f64-requires
+nearest-i64-to-f64-requires : tie.Need-nearest_i64_to_f64-requires
 nearest-i64-to-f64-requires c κs = search rules
 
-returns-2 : tie.Need-returns-2
-returns-2 c = c.nearest-i64-to-f64.ensures ∙ ap (of_int binary64) (to_z-of_z c.before.before.ranges.n)
+returns-2 : tie.Need-returns
+returns-2 c = c.nearest_i64_to_f64.ensures ∙ ap (of_int binary64) (to_z-of_z c.before.before.ranges.n)
 
-pub double-spec : {M : Type 1} → statement M
-double-spec =
+pub double_spec : {M : Type 1} → statement M
+double_spec =
     tie.close
     (tie.spec cast-result int-to-float-result returns nearest-i64-to-f64-requires returns-2)

@@ -4,12 +4,12 @@ use lib.Ieee.{of_bits}
 use Rattle.floats.proofs.is_latitude.Statement.{statement}
 use Rattle.floats.proofs.is_latitude.Tie as tie
 
-is-within-requires : tie.Need-is-within-requires
+is-within-requires : tie.Need-is_within-requires
 is-within-requires c κs = search rules
 
 returns : tie.Need-returns
 unfolding of_bits
-returns c = c.is_Within.ensures
+returns c = c.is_within.ensures
 
-pub is-latitude-spec : {M : Type 1} → statement M
-is-latitude-spec = tie.close (tie.spec is-within-requires returns)
+pub is_latitude_spec : {M : Type 1} → statement M
+is_latitude_spec = tie.close (tie.spec is-within-requires returns)

@@ -4,12 +4,12 @@ use lib.Ieee.{of_bits}
 use Rattle.floats.proofs.is_plane.Statement.{statement}
 use Rattle.floats.proofs.is_plane.Tie as tie
 
-is-within-requires : tie.Need-is-within-requires
+is-within-requires : tie.Need-is_within-requires
 is-within-requires c κs = search rules
 
 returns : tie.Need-returns
 unfolding of_bits
-returns c = c.is_Within.ensures
+returns c = c.is_within.ensures
 
-pub is-plane-spec : {M : Type 1} → statement M
-is-plane-spec = tie.close (tie.spec is-within-requires returns)
+pub is_plane_spec : {M : Type 1} → statement M
+is_plane_spec = tie.close (tie.spec is-within-requires returns)

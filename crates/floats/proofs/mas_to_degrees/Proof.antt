@@ -13,5 +13,5 @@ returns : tie.Need-returns
 unfolding of_bits of_int
 returns c = out_is degree c.before.ranges.n c.double.ensures
 
-pub mas-to-degrees-spec : {M : Type 1} → statement M
-mas-to-degrees-spec = tie.close (tie.spec double-requires returns)
+pub mas_to_degrees_spec : {M : Type 1} → statement M
+mas_to_degrees_spec = tie.close (tie.spec double-requires returns)

@@ -45,7 +45,7 @@ module _ (c : tie.Start) where
   finite = at_most_finite 50_000_000 x at_most
 
   value : HasValue x sign (size_of field fraction) (2 ^ 1074)
-  value = pattern_value x (subst T (sym c.well-formed.1.0.1) tt) finite
+  value = pattern_value x (subst T (sym c.well_formed.1.0.1) tt) finite
 
   exact : whole_of unit x ≡ signed sign (nearest (size_of field fraction * unit) (2 ^ 1074))
   exact = whole_of_value unit x sign (size_of field fraction) (2 ^ 1074) (pow_pos 1074) value
@@ -62,59 +62,59 @@ module _ (c : tie.Start) where
   product_lt : product < 2 ^ 62
   product_lt = omega (arith, high_le, low-le)
 
-float-to-bits-bits : tie.Need-float-to-bits-bits
+float-to-bits-bits : tie.Need-float_to_bits-bits
 float-to-bits-bits c = finite_number (x c) (finite c)
 
-returns : tie.Need-returns
+returns : tie.Need-returns-then-field-lt-LEAST_FIELD
 returns c =
     let start = c.before in
     let small : fraction start < 2 ^ 52 = omega arith in
-    let none = nearest_low_field (unit start) (field start) (fraction start) start.requires.0 small c.if1.true in
+    let none = nearest_low_field (unit start) (field start) (fraction start) start.requires.0 small c.if-field-lt-LEAST_FIELD.true in
     sym (exact start ∙ ap (signed (sign start)) none ∙ signed_zero (sign start))
 
-add-digits : tie.Need-overflow-add-digits
+add-digits : tie.Need-overflow_add-digits
 add-digits c = search rules
 
-mul-product : tie.Need-overflow-mul-product
+mul-product : tie.Need-overflow_mul-product
 mul-product c = record { fits = omega (arith, high_le c.before) }
 
-mul-product-2 : tie.Need-overflow-mul-product-2
+mul-product-2 : tie.Need-overflow_mul-product-2
 mul-product-2 c = record { fits = omega (arith, low-le c.before) }
 
-add-product : tie.Need-overflow-add-product
+add-product : tie.Need-overflow_add-product
 add-product c = record { fits = omega (arith, product_lt c.before) }
 
-sub-nearest : tie.Need-overflow-sub-nearest
+sub-nearest : tie.Need-overflow_sub-field
 sub-nearest c = omega (arith, field-le c.before)
 
-shl-nearest : tie.Need-overflow-shl-nearest
+shl-nearest : tie.Need-overflow_shl-field
 shl-nearest c = search rules
 
-nearest-requires : tie.Need-nearest-requires
+nearest-requires : tie.Need-nearest-size-requires
 nearest-requires c κs =
     let start = c.before in
-    let some = shift_some (field start) c.if1.false (field-le start) in
-    let most = shift_le (field start) c.if1.false (field-le start) in
+    let some = shift_some (field start) c.if-field-lt-LEAST_FIELD.false (field-le start) in
+    let most = shift_le (field start) c.if-field-lt-LEAST_FIELD.false (field-le start) in
     (some, omega (arith, product_lt start, most))
 
 signed-requires : tie.Need-signed-requires
 signed-requires c κs =
     let start = c.before.before in
-    let some = shift_some (field start) c.before.if1.false (field-le start) in
-    let most = shift_le (field start) c.before.if1.false (field-le start) in
-    omega (arith, c.nearest.ensures, nearest_le (product start) (shift (field start)) some, product_lt start, most)
+    let some = shift_some (field start) c.before.if-field-lt-LEAST_FIELD.false (field-le start) in
+    let most = shift_le (field start) c.before.if-field-lt-LEAST_FIELD.false (field-le start) in
+    omega (arith, c.nearest-size.ensures, nearest_le (product start) (shift (field start)) some, product_lt start, most)
 
-returns-2 : tie.Need-returns-2
+returns-2 : tie.Need-returns
 returns-2 c =
     let start = c.before.before.before in
-    let whole = nearest_product (unit start) (field start) (fraction start) c.before.before.if1.false (field-le start) in
-    to_z-of_z {w = w64} (record { sfits = c.signed.type-inv })
+    let whole = nearest_product (unit start) (field start) (fraction start) c.before.before.if-field-lt-LEAST_FIELD.false (field-le start) in
+    to_z-of_z {w = w64} (record { sfits = c.signed.type_inv })
     ∙ c.signed.ensures
-    ∙ ap (signed (sign start)) (c.before.nearest.ensures ∙ whole)
+    ∙ ap (signed (sign start)) (c.before.nearest-size.ensures ∙ whole)
     ∙ sym (exact start)
 
-pub whole-units-spec : {M : Type 1} → statement M
-whole-units-spec =
+pub whole_units_spec : {M : Type 1} → statement M
+whole_units_spec =
     tie.close
     (tie.spec
     float-to-bits-bits

@@ -11,10 +11,10 @@ use Rattle.units.proofs.are_within.Tie as tie
 passed_on : (low low' high high' z z' : ℤ) → low' ≡ low → high' ≡ high → z' ≡ z → within low' high' z' ≡ within low high z
 passed_on low low' high high' z z' e f g = rw (e, f, g)
 
-is-within-requires : tie.Need-is-within-requires
+is-within-requires : tie.Need-is_within-requires
 is-within-requires c κs = search rules
 
-is-within-requires-2 : tie.Need-is-within-requires-2
+is-within-requires-2 : tie.Need-is_within-requires-2
 is-within-requires-2 c κs = search rules
 
 both-requires : tie.Need-both-requires
@@ -27,8 +27,8 @@ returns c =
     let f = first.before.ranges in
     c.both.ensures
     ∙ ap₂ ◌&&◌
-    (first.is_Within.ensures ∙ passed_on _ _ _ _ _ _ (to_z-of_z f.low) (to_z-of_z f.high) (to_z-of_z f.x))
-    (second.is-within2.ensures ∙ passed_on _ _ _ _ _ _ (to_z-of_z f.least) (to_z-of_z f.most) (to_z-of_z f.y))
+    (first.is_within.ensures ∙ passed_on _ _ _ _ _ _ (to_z-of_z f.low) (to_z-of_z f.high) (to_z-of_z f.x))
+    (second.is_within-2.ensures ∙ passed_on _ _ _ _ _ _ (to_z-of_z f.least) (to_z-of_z f.most) (to_z-of_z f.y))
 
-pub are-within-spec : {M : Type 1} → statement M
-are-within-spec = tie.close (tie.spec is-within-requires is-within-requires-2 both-requires returns)
+pub are_within_spec : {M : Type 1} → statement M
+are_within_spec = tie.close (tie.spec is-within-requires is-within-requires-2 both-requires returns)

@@ -8,15 +8,15 @@ use Rattle.units.specs.Spans.{within, on_plane}
 use Rattle.units.proofs.is_on_plane.Statement.{statement}
 use Rattle.units.proofs.is_on_plane.Tie as tie
 
-are-within-requires : tie.Need-are-within-requires
+are-within-requires : tie.Need-are_within-requires
 are-within-requires c κs = search rules
 
 returns : tie.Need-returns
 unfolding on_plane
 returns c =
-    c.are-within.ensures
+    c.are_within.ensures
     ∙ ap₂ (λ (x y : ℤ). within (neg_ℤ (pos 5_000_000_000)) (pos 5_000_000_000) x && within (neg_ℤ (pos 5_000_000_000)) (pos 5_000_000_000) y)
     (to_z-of_z c.before.ranges.easting) (to_z-of_z c.before.ranges.northing)
 
-pub is-on-plane-spec : {M : Type 1} → statement M
-is-on-plane-spec = tie.close (tie.spec are-within-requires returns)
+pub is_on_plane_spec : {M : Type 1} → statement M
+is_on_plane_spec = tie.close (tie.spec are-within-requires returns)

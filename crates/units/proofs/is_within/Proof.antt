@@ -8,20 +8,20 @@ use Rattle.units.specs.Spans.{within}
 use Rattle.units.proofs.is_within.Statement.{statement}
 use Rattle.units.proofs.is_within.Tie as tie
 
-returns : tie.Need-returns
+returns : tie.Need-returns-then-z-low
 unfolding within
 returns c =
     let start = c.before in
-    let below : lt_z start.args.z start.args.low ≡ _ = sym (ap₂ lt_z (to_z-of_z start.ranges.z) (to_z-of_z start.ranges.low)) ∙ c.if1.true in
+    let below : lt_z start.args.z start.args.low ≡ _ = sym (ap₂ lt_z (to_z-of_z start.ranges.z) (to_z-of_z start.ranges.low)) ∙ c.if-z-low.true in
     sym (ap (λ (b : Bool). b && le_z start.args.z start.args.high) (lt_le_z (lt_z_true start.args.z start.args.low below)))
 
-returns-2 : tie.Need-returns-2
+returns-2 : tie.Need-returns
 unfolding within
 returns-2 c =
     let start = c.before in
-    let above : lt_z start.args.z start.args.low ≡ _ = sym (ap₂ lt_z (to_z-of_z start.ranges.z) (to_z-of_z start.ranges.low)) ∙ c.if1.false in
+    let above : lt_z start.args.z start.args.low ≡ _ = sym (ap₂ lt_z (to_z-of_z start.ranges.z) (to_z-of_z start.ranges.low)) ∙ c.if-z-low.false in
     ap₂ le_z (to_z-of_z start.ranges.z) (to_z-of_z start.ranges.high)
     ∙ sym (ap (λ (b : Bool). b && le_z start.args.z start.args.high) (le_le_z (lt_z_false start.args.z start.args.low above)))
 
-pub is-within-spec : {M : Type 1} → statement M
-is-within-spec = tie.close (tie.spec returns returns-2)
+pub is_within_spec : {M : Type 1} → statement M
+is_within_spec = tie.close (tie.spec returns returns-2)
