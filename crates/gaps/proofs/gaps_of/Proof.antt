@@ -16,8 +16,8 @@ returns c =
     let a = first.before.before.before.args in
     rw (
       gap_is a.found.first a.right.first (search rules) (search rules) first.gap.ensures,
-      gap_is a.found.second a.right.second (search rules) (search rules) c.gap2.ensures,
+      gap_is a.found.second a.right.second (search rules) (search rules) c.gap-2.ensures,
     )
 
-pub gaps-of-spec : {M : Type 1} → statement M
-gaps-of-spec = tie.close (tie.spec gap-requires gap-requires-2 returns)
+pub gaps_of_spec : {M : Type 1} → statement M
+gaps_of_spec = tie.close (tie.spec gap-requires gap-requires-2 returns)

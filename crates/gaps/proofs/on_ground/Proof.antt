@@ -7,13 +7,13 @@ use mir.Facts.{to_z-of_z}
 use Rattle.gaps.proofs.on_ground.Statement.{statement}
 use Rattle.gaps.proofs.on_ground.Tie as tie
 
-magnitude-requires : tie.Need-magnitude-requires
+magnitude-requires : tie.Need-magnitude-great_circle-requires
 magnitude-requires c κs = search rules
 
 part-requires : tie.Need-part-requires
 part-requires c κs = search rules
 
-magnitude-requires-2 : tie.Need-magnitude-requires-2
+magnitude-requires-2 : tie.Need-magnitude-requires
 magnitude-requires-2 c κs = search rules
 
 part-requires-2 : tie.Need-part-requires-2
@@ -25,12 +25,12 @@ part-requires-3 c κs = search rules
 returns : tie.Need-returns
 returns c =
     let start = c.before.before.before.before.before in
-    let radius = c.before.before.before.before.magnitude.ensures ∙ ap nat_abs (to_z-of_z start.ranges.radius) in
-    let cosine = c.before.before.magnitude2.ensures ∙ ap nat_abs (to_z-of_z start.ranges.cosine) in
-    rw (c.before.before.before.part.ensures, c.part3.ensures, c.before.part2.ensures, radius, cosine)
+    let radius = c.before.before.before.before.magnitude-great_circle.ensures ∙ ap nat_abs (to_z-of_z start.ranges.radius) in
+    let cosine = c.before.before.magnitude.ensures ∙ ap nat_abs (to_z-of_z start.ranges.cosine) in
+    rw (c.before.before.before.part.ensures, c.part-3.ensures, c.before.part-2.ensures, radius, cosine)
 
-pub on-ground-spec : {M : Type 1} → statement M
-on-ground-spec =
+pub on_ground_spec : {M : Type 1} → statement M
+on_ground_spec =
     tie.close
     (tie.spec
     magnitude-requires

@@ -14,17 +14,17 @@ cut-requires c κs = search rules
 cut-requires-2 : tie.Need-cut-requires-2
 cut-requires-2 c κs = search rules
 
-mul-nearest : tie.Need-overflow-mul-nearest
-mul-nearest c = record { fits = omega (arith, mul-le-mul c.before.cut.ensures.1 c.cut2.ensures.1) }
+mul-nearest : tie.Need-overflow_mul-cut
+mul-nearest c = record { fits = omega (arith, mul-le-mul c.before.cut.ensures.1 c.cut-2.ensures.1) }
 
 nearest-requires : tie.Need-nearest-requires
-nearest-requires c κs = (c.before.before.requires.0, omega (arith, mul-le-mul c.before.cut.ensures.1 c.cut2.ensures.1))
+nearest-requires c κs = (c.before.before.requires.0, omega (arith, mul-le-mul c.before.cut.ensures.1 c.cut-2.ensures.1))
 
 returns : tie.Need-returns
 returns c =
     let start = c.before.before.before in
     c.nearest.ensures
-    ∙ ap₂ (λ (x y : ℕ). nearest (x * y) start.args.d) c.before.before.cut.ensures.0 c.before.cut2.ensures.0
+    ∙ ap₂ (λ (x y : ℕ). nearest (x * y) start.args.d) c.before.before.cut.ensures.0 c.before.cut-2.ensures.0
 
-pub part-spec : {M : Type 1} → statement M
-part-spec = tie.close (tie.spec cut-requires cut-requires-2 mul-nearest nearest-requires returns)
+pub part_spec : {M : Type 1} → statement M
+part_spec = tie.close (tie.spec cut-requires cut-requires-2 mul-nearest nearest-requires returns)
