@@ -9,9 +9,8 @@ use native.Mathlib.Omega.{arith}
 use borrow.Author.Tests.{eq-eqb, ne_eqb, eqb-true}
 use lib.Dec.{eqb}
 use lib.ListN.{length, take, drop, length-drop, drop_of_length-le}
-use lib.Seq.{take_all, take-length, take-append_seam, drop-append-add}
-use Rattle.bytes.specs.Bytes.{index_after, index_of, slice}
-use Rattle.text.specs.Cutting.{up_to, after}
+use lib.Seq.{slice, take_all, take-length, take-append_seam, drop-append-add}
+use Rattle.text.specs.Cutting.{index_after, index_of, up_to, after}
 
 pub index_within : (b : ℕ) (xs : List ℕ) → index_of b xs ≤ length xs
 unfolding index_of index_after
@@ -26,9 +25,8 @@ index_within b (x ∷ xs) = either (eqb x b) (index_within b xs)
 pub rest_of : (n : ℕ) (xs : List ℕ) → take (length xs - n) (drop n xs) ≡ drop n xs
 rest_of n xs = take_all (length xs - n) (drop n xs) (simp length-drop (omega arith))
 
--- what the kit's `find` searches, from an index to the end
+-- what `find` searches, from an index to the end
 pub found : (b from : ℕ) (xs : List ℕ) {r : ℕ} → r ≡ from + index_of b (slice from (length xs) xs) → r ≡ from + index_of b (drop from xs)
-unfolding slice
 found b from xs e = e ∙ ap (λ (l : List ℕ). from + index_of b (drop from l)) (take-length xs)
 
 -- the two parts, as code lends them, where n is the index at which they are cut

@@ -1,6 +1,15 @@
--- Bytes cut at the first byte b. `index_of` of the kit is its index, or the length where there is none.
-use Rattle.std.specs.Prelude.{ℕ, suc, List, take, drop}
-use Rattle.bytes.specs.Bytes.{index_of}
+-- Bytes cut at the first byte b.
+use Rattle.std.specs.Prelude.{ℕ, suc, Bool, true, false, List, [], ◌∷◌, eqb, take, drop}
+
+-- one index further, but where b stood
+unfoldable pub index_after : Bool → ℕ → ℕ
+index_after true n = 0
+index_after false n = suc n
+
+-- the index of the first b, or the length where there is none
+unfoldable pub index_of : ℕ → List ℕ → ℕ
+index_of b [] = 0
+index_of b (x ∷ xs) = index_after (eqb x b) (index_of b xs)
 
 -- the bytes before the first b, or all where there is none
 abbrev pub up_to : ℕ → List ℕ → List ℕ

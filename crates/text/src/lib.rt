@@ -2,11 +2,14 @@
 #![tactic(auto)]
 
 ghost use Rattle.std.specs.Prelude.{◌≡◌, ◌+◌, ◌≤◌, length};
+ghost use Rattle.std.proofs.Math.Seq.{slice};
 ghost use Rattle.text.specs.Ascii.{same_text};
+ghost use Rattle.text.specs.Cutting.{index_of};
 ghost use Rattle.text.specs.Numbers.{leading_zero, unsigned_of, number_of, decimal, number_text, labelled, pair_text};
 ghost use Rattle.text.specs.Pasting.{Put};
 
 use integers::{magnitude, signed};
+use memchr::memchr;
 
 // What bytes spell: a number, or something else.
 #[derive(Drop)]
@@ -30,6 +33,19 @@ pub fn is_same(text: &[u8], other: &[u8]) -> bool
         i += 1;
     }
     true
+}
+
+// The first index from `from` on and before `to` at which b stands, or `to` where it stands at none of them.
+pub fn find(bytes: &[u8], from: usize, to: usize, b: u8) -> usize
+    requires order { from ≤ to }
+    requires in_bounds { to ≤ length bytes.now }
+    ensures value { result ≡ from + index_of b (slice from to bytes.now) }
+    ensures bound { result ≤ to }
+{
+    match memchr(b, &bytes[from..to]) {
+        Some(k) => from + k,
+        None => to,
+    }
 }
 
 // The most digits that are read; a number of so many fits an i64.
@@ -89,7 +105,9 @@ pub fn put_bytes(out: &mut [u8], at: usize, bytes: &[u8]) -> usize
     requires { at + length bytes.now ≤ length out.old }
     ensures { Put out.old at bytes.now out.new result }
 {
-    at + bytes::copy(bytes, &mut out[at..])
+    let end = at + bytes.len();
+    out[at..end].copy_from_slice(bytes);
+    end
 }
 
 // Writes a number's digits, without leading zeros, at an index and answers the index after them.

@@ -54,78 +54,78 @@ module _ (t : ℕ) where
 
   -- the three places where a fact is due
   abbrev One : Type 0
-  One = put-digits-lts.Then1 claims given put-digits.Post
+  One = put-digits-lts.Then-n-lt10 claims given put-digits.Post
 
   abbrev More : Type 0
-  More = put-digits-lts.Else1 claims given put-digits.Post
+  More = put-digits-lts.Else-n-lt10 claims given put-digits.Post
 
   abbrev Last : Type 0
-  Last = put-digits-lts.After-slice-known2 claims given put-digits.Post
+  Last = put-digits-lts.After-slice_known-2-1 claims given put-digits.Post
 
-  cast-out : put-digits-lts.Need-overflow-cast-out claims given put-digits.Post
+  cast-out : put-digits-lts.Need-overflow_cast-out claims given put-digits.Post
   cast-out c = omega arith
 
-  add-out : put-digits-lts.Need-overflow-add-out claims given put-digits.Post
+  add-out : put-digits-lts.Need-overflow_add-out claims given put-digits.Post
   add-out c = omega arith
 
   fits_one : (c : One) → c.before.before.args.at < length c.before.before.args.out.now
   fits_one c =
       let start = c.before.before in
-      one-fits start.args.out.now start.args.at start.args.n start.requires.1 c.if1.true
+      one-fits start.args.out.now start.args.at start.args.n start.requires.1 c.if-n-lt10.true
 
-  slice-write-out : put-digits-lts.Need-slice-write-out claims given put-digits.Post
+  slice-write-out : put-digits-lts.Need-bounds-out-at claims given put-digits.Post
   slice-write-out c = fits_one c
 
-  add-result : put-digits-lts.Need-overflow-add-result claims given put-digits.Post
+  add-result : put-digits-lts.Need-overflow_add-result claims given put-digits.Post
   add-result c = omega (arith, fits_one c)
 
-  same_length : put-digits-lts.Need-same-length claims given put-digits.Post
+  same_length : put-digits-lts.Need-shape_of-out-then-n-lt10 claims given put-digits.Post
   same_length c = simp length-set
 
-  returns : put-digits-lts.Need-returns claims given put-digits.Post
-  returns c = let start = c.before.before in one-put _ _ start.args.n start.requires.1 c.if1.true
+  returns : put-digits-lts.Need-returns-then-n-lt10 claims given put-digits.Post
+  returns c = let start = c.before.before in one-put _ _ start.args.n start.requires.1 c.if-n-lt10.true
 
   more : (c : More) → length (decimal c.before.before.args.n) ≡ length (decimal (c.before.before.args.n / 10)) + 1
   more c =
       let start = c.before.before in
-      digits_more start.args.out.now start.args.at start.args.n start.requires.1 c.if1.false start.ranges.n.fits
+      digits_more start.args.out.now start.args.at start.args.n start.requires.1 c.if-n-lt10.false start.ranges.n.fits
 
-  put-digits-requires : put-digits-lts.Need-put-digits-requires claims given put-digits.Post
+  put-digits-requires : put-digits-lts.Need-put_digits-last-requires claims given put-digits.Post
   put-digits-requires c κs =
       let start = c.before.before.before in
       (subst (λ (m : ℕ). start.args.n / 10 < m) start.requires.0 (omega arith), omega (arith, more c.before))
 
-  cast-out-2 : put-digits-lts.Need-overflow-cast-out-2 claims given put-digits.Post
+  cast-out-2 : put-digits-lts.Need-overflow_cast-out-2 claims given put-digits.Post
   cast-out-2 c = omega arith
 
-  add-out-2 : put-digits-lts.Need-overflow-add-out-2 claims given put-digits.Post
+  add-out-2 : put-digits-lts.Need-overflow_add-out-2 claims given put-digits.Post
   add-out-2 c = omega arith
 
-  fits_last : (c : Last) → c.before.before.put-digits.result < length c.before.before.before.before.before.before.args.out.now
+  fits_last : (c : Last) → c.before.before.put_digits-last.result < length c.before.before.before.before.before.before.args.out.now
   fits_last c =
       let call = c.before.before in
       let above = call.before.before in
       let start = above.before.before in
-      last_fits _ _ start.args.n start.requires.1 above.if1.false start.ranges.n.fits call.put-digits.ensures
+      last_fits _ _ start.args.n start.requires.1 above.if-n-lt10.false start.ranges.n.fits call.put_digits-last.ensures
 
-  slice-write-out-2 : put-digits-lts.Need-slice-write-out-2 claims given put-digits.Post
-  slice-write-out-2 c = omega (arith, fits_last c, c.before.before.put-digits.auto.0)
+  slice-write-out-2 : put-digits-lts.Need-bounds-out-last claims given put-digits.Post
+  slice-write-out-2 c = omega (arith, fits_last c, c.before.before.put_digits-last.auto.out)
 
-  add-result-2 : put-digits-lts.Need-overflow-add-result-2 claims given put-digits.Post
+  add-result-2 : put-digits-lts.Need-overflow_add-result-2 claims given put-digits.Post
   add-result-2 c = omega (arith, fits_last c)
 
-  same-length-2 : put-digits-lts.Need-same-length-2 claims given put-digits.Post
+  same-length-2 : put-digits-lts.Need-shape_of-out claims given put-digits.Post
   same-length-2 c = simp length-set (omega arith)
 
-  returns-2 : put-digits-lts.Need-returns-2 claims given put-digits.Post
+  returns-2 : put-digits-lts.Need-returns claims given put-digits.Post
   returns-2 c =
       let call = c.before.before in
       let above = call.before.before in
       let start = above.before.before in
-      last-put _ _ start.args.n start.requires.1 above.if1.false start.ranges.n.fits call.put-digits.ensures
+      last-put _ _ start.args.n start.requires.1 above.if-n-lt10.false start.ranges.n.fits call.put_digits-last.ensures
 
-pub +put-digits-spec : {M : Type 1} → statement M
-+put-digits-spec = close μ-put-digits λ t. put-digits-lts.spec (claims t)
+pub +put_digits_spec : {M : Type 1} → statement M
++put_digits_spec = close μ-put-digits λ t. put-digits-lts.spec (claims t)
     (given t)
     put-digits.Post
     (cast-out t)

@@ -21,14 +21,14 @@ by_first [] h = absurd (omega arith)
 by_first (b ∷ []) h = absurd (omega arith)
 by_first (b ∷ c ∷ bs) h = refl
 
-returns : tie.Need-returns
-returns c = sym (few c.before.args.digits.now c.if1.true)
+returns : tie.Need-returns-then-digits-lt2
+returns c = sym (few c.before.args.digits.now c.if-digits-lt2.true)
 
-shared-slice-read-result : tie.Need-shared-slice-read-result
+shared-slice-read-result : tie.Need-bounds-digits-0
 shared-slice-read-result c = search rules
 
-returns-2 : tie.Need-returns-2
-returns-2 c = sym (by_first c.before.before.args.digits.now c.before.if1.false)
+returns-2 : tie.Need-returns
+returns-2 c = sym (by_first c.before.before.args.digits.now c.before.if-digits-lt2.false)
 
-pub has-leading-zero-spec : {M : Type 1} → statement M
-has-leading-zero-spec = tie.close (tie.spec returns shared-slice-read-result returns-2)
+pub has_leading_zero_spec : {M : Type 1} → statement M
+has_leading_zero_spec = tie.close (tie.spec returns shared-slice-read-result returns-2)

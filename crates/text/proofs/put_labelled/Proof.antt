@@ -7,18 +7,18 @@ use borrow.Author.Rules.{rules}
 use Rattle.text.proofs.put_labelled.Statement.{statement}
 use Rattle.text.proofs.put_labelled.Tie as tie
 
-put-bytes-requires : tie.Need-put-bytes-requires
+put-bytes-requires : tie.Need-put_bytes-after-requires
 put-bytes-requires c κs =
     let start = c.before.before.before in
     room_first start.args.at start.args.label.now (number_text start.args.z) start.requires
 
-put-number-requires : tie.Need-put-number-requires
+put-number-requires : tie.Need-put_number-requires
 put-number-requires c κs =
     let label = c.before.before.before in
     let start = label.before.before.before.before in
-    rw (to_z-of_z start.ranges.z) (room_after label.put-bytes.ensures (number_text start.args.z) start.requires)
+    rw (to_z-of_z start.ranges.z) (room_after label.put_bytes-after.ensures (number_text start.args.z) start.requires)
 
-same_length : tie.Need-same-length
+same_length : tie.Need-shape_of-out
 same_length c = search rules
 
 returns : tie.Need-returns
@@ -26,7 +26,7 @@ returns c =
     let number = c.before.before in
     let label = number.before.before.before.before in
     let start = label.before.before.before.before in
-    put_both label.put-bytes.ensures (omega arith) (rw (to_z-of_z start.ranges.z) at number.put-number.ensures)
+    put_both label.put_bytes-after.ensures (omega arith) (rw (to_z-of_z start.ranges.z) at number.put_number.ensures)
 
-pub put-labelled-spec : {M : Type 1} → statement M
-put-labelled-spec = tie.close (tie.spec put-bytes-requires put-number-requires same_length returns)
+pub put_labelled_spec : {M : Type 1} → statement M
+put_labelled_spec = tie.close (tie.spec put-bytes-requires put-number-requires same_length returns)

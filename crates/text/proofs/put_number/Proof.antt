@@ -27,15 +27,15 @@ module _ (c : tie.Start) where
   digits_of e = ap decimal (e ∙ ap nat_abs (to_z-of_z c.ranges.z))
 
 -- the number's text, by the test on its sign
-negative-text : (c : tie.Then1) → number_text (z c.before.before) ≡ minus ∷ decimal (nat_abs (z c.before.before))
+negative-text : (c : tie.Then-z-lt0) → number_text (z c.before.before) ≡ minus ∷ decimal (nat_abs (z c.before.before))
 negative-text c =
     let start = c.before.before in
-    text_negative (z start) (rw (to_z-of_z start.ranges.z) at c.if1.true)
+    text_negative (z start) (rw (to_z-of_z start.ranges.z) at c.if-z-lt0.true)
 
-plain-text : (c : tie.Else1) → number_text (z c.before.before) ≡ decimal (nat_abs (z c.before.before))
+plain-text : (c : tie.Else-z-lt0) → number_text (z c.before.before) ≡ decimal (nat_abs (z c.before.before))
 plain-text c =
     let start = c.before.before in
-    text_plain (z start) (rw (to_z-of_z start.ranges.z) at c.if1.false)
+    text_plain (z start) (rw (to_z-of_z start.ranges.z) at c.if-z-lt0.false)
 
 -- the text that is put, where the size is at hand
 negative-put : (c : tie.After-magnitude) → (minus ∷ []) ++ decimal c.magnitude.result ≡ number_text (z c.before.before.before.before)
@@ -43,50 +43,50 @@ negative-put c =
     let test = c.before.before in
     ap (λ (l : List ℕ). minus ∷ l) (digits_of test.before.before c.magnitude.ensures) ∙ sym (negative-text test)
 
-plain-put : (c : tie.After-magnitude2) → decimal c.magnitude2.result ≡ number_text (z c.before.before.before.before)
+plain-put : (c : tie.After-magnitude-2) → decimal c.magnitude-2.result ≡ number_text (z c.before.before.before.before)
 plain-put c =
     let test = c.before.before in
-    digits_of test.before.before c.magnitude2.ensures ∙ sym (plain-text test)
+    digits_of test.before.before c.magnitude-2.ensures ∙ sym (plain-text test)
 
-slice-write-out : tie.Need-slice-write-out
+slice-write-out : tie.Need-bounds-out-at
 slice-write-out c = omega (arith, ap length (negative-text c))
 
-add-put-digits : tie.Need-overflow-add-put-digits
+add-put-digits : tie.Need-overflow_add-at
 add-put-digits c = search rules
 
 magnitude-requires : tie.Need-magnitude-requires
 magnitude-requires c κs = search rules
 
-put-digits-requires : tie.Need-put-digits-requires
+put-digits-requires : tie.Need-put_digits-requires
 put-digits-requires c κs = simp length-set (omega (arith, ap length (negative-put c)))
 
-same_length : tie.Need-same-length
-same_length c = simp length-set at c.before.before.put-digits.auto.0
+same_length : tie.Need-shape_of-out-then-z-lt0
+same_length c = simp length-set at c.before.before.put_digits.auto.out
 
-returns : tie.Need-returns
+returns : tie.Need-returns-then-z-lt0
 returns c =
     let call = c.before.before in
     let test = call.before.before.before in
     let start = test.before.before in
     let sign = put_one (out start) start.args.at minus (slice-write-out test) in
-    put_as (put_both sign (omega arith) call.put-digits.ensures) (negative-put call.before)
+    put_as (put_both sign (omega arith) call.put_digits.ensures) (negative-put call.before)
 
 magnitude-requires-2 : tie.Need-magnitude-requires-2
 magnitude-requires-2 c κs = search rules
 
-put-digits-requires-2 : tie.Need-put-digits-requires-2
+put-digits-requires-2 : tie.Need-put_digits-requires-2
 put-digits-requires-2 c κs = omega (arith, ap length (plain-put c))
 
-same-length-2 : tie.Need-same-length-2
+same-length-2 : tie.Need-shape_of-out
 same-length-2 c = search rules
 
-returns-2 : tie.Need-returns-2
+returns-2 : tie.Need-returns
 returns-2 c =
     let call = c.before.before in
-    put_as call.put-digits2.ensures (plain-put call.before)
+    put_as call.put_digits-2.ensures (plain-put call.before)
 
-pub put-number-spec : {M : Type 1} → statement M
-put-number-spec =
+pub put_number_spec : {M : Type 1} → statement M
+put_number_spec =
     tie.close
     (tie.spec
     slice-write-out

@@ -16,19 +16,19 @@ module _ (c : tie.Start) where
   abbrev secondText : List ℕ
   secondText = labelled c.args.second.now c.args.y
 
-put-labelled-requires : tie.Need-put-labelled-requires
+put-labelled-requires : tie.Need-put_labelled-after-requires
 put-labelled-requires c κs =
     let start = c.before.before.before.before in
     rw (to_z-of_z start.ranges.x) (room_first start.args.at (firstText start) (secondText start) start.requires)
 
-put-labelled-requires-2 : tie.Need-put-labelled-requires-2
+put-labelled-requires-2 : tie.Need-put_labelled-requires
 put-labelled-requires-2 c κs =
     let first = c.before.before.before in
     let start = first.before.before.before.before.before in
-    let put = rw (to_z-of_z start.ranges.x) at first.put-labelled.ensures in
+    let put = rw (to_z-of_z start.ranges.x) at first.put_labelled-after.ensures in
     rw (to_z-of_z start.ranges.y) (room_after put (secondText start) start.requires)
 
-same_length : tie.Need-same-length
+same_length : tie.Need-shape_of-out
 same_length c = search rules
 
 returns : tie.Need-returns
@@ -36,9 +36,9 @@ returns c =
     let second = c.before.before in
     let first = second.before.before.before.before in
     let start = first.before.before.before.before.before in
-    put_both (rw (to_z-of_z start.ranges.x) at first.put-labelled.ensures) (omega arith)
-    (rw (to_z-of_z start.ranges.y) at second.put-labelled2.ensures)
+    put_both (rw (to_z-of_z start.ranges.x) at first.put_labelled-after.ensures) (omega arith)
+    (rw (to_z-of_z start.ranges.y) at second.put_labelled.ensures)
 
-pub put-pair-spec : {M : Type 1} → statement M
-put-pair-spec =
+pub put_pair_spec : {M : Type 1} → statement M
+put_pair_spec =
     tie.close (tie.spec put-labelled-requires put-labelled-requires-2 same_length returns)

@@ -9,43 +9,43 @@ use borrow.Author.Rules.{rules}
 use Rattle.text.proofs.read_number.Statement.{statement}
 use Rattle.text.proofs.read_number.Tie as tie
 
-returns : tie.Need-returns
-returns c = sym (number_empty _ c.if1.true)
+returns : tie.Need-returns-then-bytes-eq0
+returns c = sym (number_empty _ c.if-bytes-eq0.true)
 
-shared-slice-read-if2 : tie.Need-shared-slice-read-if2
+shared-slice-read-if2 : tie.Need-bounds-bytes-0
 shared-slice-read-if2 c = search rules
 
-sub-read-unsigned : tie.Need-overflow-sub-read-unsigned
+sub-read-unsigned : tie.Need-slice_bounds-read_unsigned-count
 sub-read-unsigned c = search rules
 
-part-read-unsigned-start : tie.Need-slice-bounds-read-unsigned-start
+part-read-unsigned-start : tie.Need-slice_bounds-read_unsigned-start
 part-read-unsigned-start c = search rules
 
-part-read-unsigned-end : tie.Need-slice-bounds-read-unsigned-end
+part-read-unsigned-end : tie.Need-slice_bounds-read_unsigned-end
 part-read-unsigned-end c = search rules
 
-read-unsigned-requires : tie.Need-read-unsigned-requires
+read-unsigned-requires : tie.Need-read_unsigned-requires
 read-unsigned-requires c κs = search rules
 
-returns-2 : tie.Need-returns-2
+returns-2 : tie.Need-returns-then-bytes-eq45
 returns-2 c =
     let head = c.before.before in
     let bytes = head.before.before.before.before.args.bytes.now in
-    c.read-unsigned.ensures
+    c.read_unsigned.ensures
     ∙ ap (unsigned_of true) (rest_of 1 bytes)
-    ∙ sym (number_minus bytes (omega arith) head.if2.true)
+    ∙ sym (number_minus bytes (omega arith) head.if-bytes-eq45.true)
 
-read-unsigned-requires-2 : tie.Need-read-unsigned-requires-2
+read-unsigned-requires-2 : tie.Need-read_unsigned-requires-2
 read-unsigned-requires-2 c κs = search rules
 
-returns-3 : tie.Need-returns-3
+returns-3 : tie.Need-returns
 returns-3 c =
     let head = c.before in
     let bytes = head.before.before.before.before.args.bytes.now in
-    c.read-unsigned2.ensures ∙ sym (number_plain bytes (omega arith) head.if2.false)
+    c.read_unsigned-2.ensures ∙ sym (number_plain bytes (omega arith) head.if-bytes-eq45.false)
 
-pub read-number-spec : {M : Type 1} → statement M
-read-number-spec =
+pub read_number_spec : {M : Type 1} → statement M
+read_number_spec =
     tie.close
     (tie.spec
     returns
