@@ -1,4 +1,4 @@
--- The cases of a line, by its space, by its numbers and by its letter: each test of the definition is decided by the case. Assumes nothing.
+-- The cases of a line, by its space and by its numbers: each test of the definition is decided by the case. Assumes nothing.
 use mathlib.Core.Path.{◌≡◌, refl}
 use mathlib.Core.Bool.{Bool, true, false, cond}
 use mathlib.Core.List.{List, [], ◌∷◌}
@@ -10,8 +10,8 @@ use lib.ListN.{length, drop, get_or}
 use Rattle.text.specs.declared.Numeral.{Numeral}
 use Rattle.text.specs.declared.Numeral.TheVariants.{Number, Other}
 use Rattle.requests.specs.declared.Request.{Request}
-use Rattle.requests.specs.declared.Request.TheVariants.{Forward, Inverse, Bad}
-use Rattle.requests.specs.Requests.{space, byte_F, byte_I, of_numbers, by_letter, by_fields, request_of}
+use Rattle.requests.specs.declared.Request.TheVariants.{Bad}
+use Rattle.requests.specs.Requests.{space, byte_F, byte_I, by_letter, by_fields, request_of}
 
 -- ---- by the space
 
@@ -46,16 +46,3 @@ first_other letter y = alike (eqb letter byte_F) (eqb letter byte_I) Bad
 pub second_other : (letter : ℕ) (x : Numeral) → by_letter letter x Other ≡ Bad
 second_other letter (Number x) = alike (eqb letter byte_F) (eqb letter byte_I) Bad
 second_other letter Other = alike (eqb letter byte_F) (eqb letter byte_I) Bad
-
--- ---- by the letter
-
-module _ (letter : ℕ) (x y : Numeral) where
-  pub is_forward : letter ≡ byte_F → by_letter letter x y ≡ of_numbers Forward x y
-  is_forward h = rw (eq-eqb letter byte_F h) refl
-
-  module _ (not_f : letter ≡ byte_F → ⊥) where
-    pub is_inverse : letter ≡ byte_I → by_letter letter x y ≡ of_numbers Inverse x y
-    is_inverse h = rw (ne_eqb letter byte_F not_f, eq-eqb letter byte_I h) refl
-
-    pub is_neither : (letter ≡ byte_I → ⊥) → by_letter letter x y ≡ Bad
-    is_neither h = rw (ne_eqb letter byte_F not_f, ne_eqb letter byte_I h) refl

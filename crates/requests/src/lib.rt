@@ -4,8 +4,7 @@
 ghost use Rattle.std.specs.Prelude.{◌≡◌};
 ghost use Rattle.requests.specs.Requests.{by_letter, by_fields, request_of};
 
-use bytes::scan::find;
-use text::{Numeral, read_number};
+use text::{Numeral, find, read_number};
 
 // How many bytes of a line decide what it asks for.
 pub const KEPT_MOST: usize = 26;
