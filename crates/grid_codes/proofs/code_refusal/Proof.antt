@@ -12,25 +12,25 @@ use borrow.Author.Rules.{rules}
 use Rattle.grid_codes.proofs.code_refusal.Statement.{statement}
 use Rattle.grid_codes.proofs.code_refusal.Tie as tie
 
-numbers-are : (c : tie.After-numbers-refusal) →
-    let a = c.before.args in c.numbers-refusal.result ≡ numbers_refusal a.side a.east a.north
+numbers-are : (c : tie.After-numbers_refusal-refusal) →
+    let a = c.before.args in c.numbers_refusal-refusal.result ≡ numbers_refusal a.side a.east a.north
 numbers-are c =
     let f = c.before.ranges in
-    c.numbers-refusal.ensures ∙ rw (to_z-of_z f.side, to_z-of_z f.east, to_z-of_z f.north) refl
+    c.numbers_refusal-refusal.ensures ∙ rw (to_z-of_z f.side, to_z-of_z f.east, to_z-of_z f.north) refl
 
 signs-are : (c : tie.After-both) → let a = c.before.before.before.args in c.both.result ≡ (le_z (pos 0) a.east && le_z (pos 0) a.north)
 signs-are c =
     let f = c.before.before.before.ranges in
     c.both.ensures ∙ rw (to_z-of_z f.east, to_z-of_z f.north) refl
 
-numbers-requires : tie.Need-numbers-refusal-requires
+numbers-requires : tie.Need-numbers_refusal-refusal-requires
 numbers-requires c κs = search rules
 
-returns : tie.Need-returns
+returns : tie.Need-returns-then-refusal-ne0
 unfolding code_refusal
 returns c =
     let is = numbers-are c.before in
-    is ∙ sym (first_given _ _ (λ e. c.if1.true (is ∙ e)))
+    is ∙ sym (first_given _ _ (λ e. c.if-refusal-ne0.true (is ∙ e)))
 
 both-requires : tie.Need-both-requires
 both-requires c κs = search rules
@@ -38,13 +38,13 @@ both-requires c κs = search rules
 unless-requires : tie.Need-unless-requires
 unless-requires c κs = search rules
 
-returns-2 : tie.Need-returns-2
+returns-2 : tie.Need-returns
 unfolding code_refusal
 returns-2 c =
     let signs = c.before in
     let left = signs.before in
-    let none = sym (numbers-are left.before) ∙ left.if1.false in
+    let none = sym (numbers-are left.before) ∙ left.if-refusal-ne0.false in
     rw none (c.unless.ensures ∙ ap (λ (t : Bool). unless t negative_cell 0) (signs-are signs))
 
-pub code-refusal-spec : {M : Type 1} → statement M
-code-refusal-spec = tie.close (tie.spec numbers-requires returns both-requires unless-requires returns-2)
+pub code_refusal_spec : {M : Type 1} → statement M
+code_refusal_spec = tie.close (tie.spec numbers-requires returns both-requires unless-requires returns-2)

@@ -16,27 +16,21 @@ use Rattle.grid_codes.proofs.put_code.Tie as tie
 abbrev numbers : tie.Start → List ℕ
 numbers s = pair_text (ascii "N") s.args.north (ascii "E") s.args.east
 
-put-side-requires : tie.Need-put-side-requires
+put-side-requires : tie.Need-put_side-after-requires
 unfolding code_text
 put-side-requires c κs =
     let start = c.before.before in
     rw (to_z-of_z start.ranges.side) (start.requires.0, omega (arith, start.requires.1, length-append (side_text start.args.side) (numbers start)))
 
-slice-aggregate-put-pair : tie.Need-slice-aggregate-put-pair
-slice-aggregate-put-pair c = search rules
-
-slice-aggregate-put-pair-2 : tie.Need-slice-aggregate-put-pair-2
-slice-aggregate-put-pair-2 c = search rules
-
-put-pair-requires : tie.Need-put-pair-requires
+put-pair-requires : tie.Need-put_pair-requires
 unfolding code_text
 put-pair-requires c κs =
-    let side = c.before.before.before.before.before in
+    let side = c.before.before.before.before.before.before.before in
     let start = side.before.before.before in
-    let put = rw (to_z-of_z start.ranges.side) at side.put-side.ensures in
+    let put = rw (to_z-of_z start.ranges.side) at side.put_side-after.ensures in
     rw (to_z-of_z start.ranges.north, to_z-of_z start.ranges.east) (room_after put (numbers start) (omega (arith, start.requires.1)))
 
-same_length : tie.Need-same-length
+same_length : tie.Need-shape_of-out
 same_length c = search rules
 
 returns : tie.Need-returns
@@ -45,16 +39,14 @@ returns c =
     let pair = c.before.before in
     let side = pair.before.before.before.before.before.before in
     let start = side.before.before.before in
-    put_both (rw (to_z-of_z start.ranges.side) at side.put-side.ensures) (omega arith)
-    (rw (to_z-of_z start.ranges.north, to_z-of_z start.ranges.east) at pair.put-pair.ensures)
+    put_both (rw (to_z-of_z start.ranges.side) at side.put_side-after.ensures) (omega arith)
+    (rw (to_z-of_z start.ranges.north, to_z-of_z start.ranges.east) at pair.put_pair.ensures)
 
-pub put-code-spec : {M : Type 1} → statement M
-put-code-spec =
+pub put_code_spec : {M : Type 1} → statement M
+put_code_spec =
     tie.close
     (tie.spec
     put-side-requires
-    slice-aggregate-put-pair
-    slice-aggregate-put-pair-2
     put-pair-requires
     same_length
     returns)

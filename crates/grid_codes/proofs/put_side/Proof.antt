@@ -38,71 +38,59 @@ module _ (s : tie.Start) where
 
   is-1-km : of_z w64 s.args.side ≡ 100_000 → side_text s.args.side ≡ ascii "1km"
   unfolding side_text same within
-  is-1-km e = by_bits s.fits.side e
+  is-1-km e = by_bits s.ranges.side e
 
   is-10-km : (of_z w64 s.args.side ≡ 10_000 → ⊥) → (of_z w64 s.args.side ≡ 100_000 → ⊥) → side_text s.args.side ≡ ascii "10km"
-  is-10-km = else-10-km s.args.side s.pre.0
+  is-10-km = else-10-km s.args.side s.requires.0
 
-slice-aggregate-put-bytes : tie.Need-slice-aggregate-put-bytes
-slice-aggregate-put-bytes c = search rules
-
-put-bytes-requires : tie.Need-put-bytes-requires
+put-bytes-requires : tie.Need-put_bytes-requires
 put-bytes-requires c κs =
-    let arm = c.before.before in
-    omega (arith, ap length (is-100-m arm.before.before arm.match.keys1))
+    let arm = c.before.before.before in
+    omega (arith, ap length (is-100-m arm.before.before arm.in-10000.in-10000-own.keys1))
 
-slice-aggregate-put-bytes-2 : tie.Need-slice-aggregate-put-bytes-2
-slice-aggregate-put-bytes-2 c = search rules
-
-put-bytes-requires-2 : tie.Need-put-bytes-requires-2
+put-bytes-requires-2 : tie.Need-put_bytes-requires-in-100000
 put-bytes-requires-2 c κs =
-    let arm = c.before.before in
-    omega (arith, ap length (is-1-km arm.before.before arm.match.keys2))
+    let arm = c.before.before.before in
+    omega (arith, ap length (is-1-km arm.before.before arm.in-100000.in-100000-own.keys2))
 
-slice-aggregate-put-bytes-3 : tie.Need-slice-aggregate-put-bytes-3
-slice-aggregate-put-bytes-3 c = search rules
-
-put-bytes-requires-3 : tie.Need-put-bytes-requires-3
+put-bytes-requires-3 : tie.Need-put_bytes-requires-in_default
 put-bytes-requires-3 c κs =
-    let arm = c.before.before in
-    omega (arith, ap length (is-10-km arm.before.before arm.match.rest.0.1 arm.match.rest.1))
+    let arm = c.before.before.before in
+    omega (arith, ap length (is-10-km arm.before.before arm.in_default.in_default-own.rest.0.1 arm.in_default.in_default-own.rest.1))
 
-same_length : tie.Need-same-length
+same_length : tie.Need-shape_of-out-in-10000
 same_length c = search rules
 
-returns : tie.Need-returns
+returns : tie.Need-returns-in-10000
 returns c =
     let call = c.before.before in
-    let arm = call.before.before.before in
-    put_as call.put-bytes.ensures (sym (is-100-m arm.before.before arm.match.keys1))
+    let arm = call.before.before.before.before in
+    put_as call.put_bytes.ensures (sym (is-100-m arm.before.before arm.in-10000.in-10000-own.keys1))
 
-same-length-2 : tie.Need-same-length-2
+same-length-2 : tie.Need-shape_of-out-in-100000
 same-length-2 c = search rules
 
-returns-2 : tie.Need-returns-2
+returns-2 : tie.Need-returns-in-100000
 returns-2 c =
     let call = c.before.before in
-    let arm = call.before.before.before in
-    put_as call.put-bytes2.ensures (sym (is-1-km arm.before.before arm.match.keys2))
+    let arm = call.before.before.before.before in
+    put_as call.put_bytes-in-100000.ensures (sym (is-1-km arm.before.before arm.in-100000.in-100000-own.keys2))
 
-same-length-3 : tie.Need-same-length-3
+same-length-3 : tie.Need-shape_of-out-in_default
 same-length-3 c = search rules
 
-returns-3 : tie.Need-returns-3
+returns-3 : tie.Need-returns-in_default
 returns-3 c =
     let call = c.before.before in
-    let arm = call.before.before.before in
-    put_as call.put-bytes3.ensures (sym (is-10-km arm.before.before arm.match.rest.0.1 arm.match.rest.1))
+    let arm = call.before.before.before.before in
+    put_as call.put_bytes-in_default.ensures (sym (is-10-km arm.before.before arm.in_default.in_default-own.rest.0.1 arm.in_default.in_default-own.rest.1))
 
-pub put-side-spec : {M : Type 1} → statement M
-put-side-spec =
+pub put_side_spec : {M : Type 1} → statement M
+put_side_spec =
     tie.close
     (tie.spec
-    slice-aggregate-put-bytes
     put-bytes-requires
-    slice-aggregate-put-bytes-2
     put-bytes-requires-2
-    slice-aggregate-put-bytes-3
     put-bytes-requires-3
     same_length
     returns
