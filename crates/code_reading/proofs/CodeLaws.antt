@@ -31,7 +31,7 @@ unfolding side_named side_text same_text same within
 side_read = of_each_side (λ side. side_named (side_text side) ≡ Number side) refl refl refl
 
 side_without : (side : ℤ) → accepted_side side ≡ true → Without byte_N (side_text side)
-unfolding side_text same within Rattle.bytes.specs.Bytes.index_of Rattle.bytes.specs.Bytes.index_after
+unfolding side_text same within Rattle.text.specs.Cutting.index_of Rattle.text.specs.Cutting.index_after
 side_without = of_each_side (λ side. Without byte_N (side_text side)) refl refl refl
 
 -- a side that is named, by the results of the three tests

@@ -42,7 +42,7 @@ module _ (side z : ℤ) (range : Between z 0 (top (nat_abs side))) (small : top 
 
 -- no E stands among digits
 digits_without : (bs : List ℕ) → are_digits bs ≡ true → Without byte_E bs
-unfolding Rattle.bytes.specs.Bytes.index_of
+unfolding Rattle.text.specs.Cutting.index_of
 digits_without [] h = refl
 digits_without (b ∷ bs) h =
     let parts = both (is_digit b) (are_digits bs) h in

@@ -1,6 +1,6 @@
 -- The witnesses, by computation. Assumes nothing.
 use mathlib.Core.Path.{refl}
-use Rattle.bytes.specs.Bytes.{index_of, index_after}
+use Rattle.text.specs.Cutting.{index_of, index_after}
 use Rattle.units.specs.Spans.{within, same}
 use Rattle.text.specs.Ascii.{same_text}
 use Rattle.text.specs.Numbers.{unsigned_of}

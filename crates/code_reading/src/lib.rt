@@ -5,10 +5,9 @@ ghost use Rattle.std.specs.Prelude.{◌≡◌, true};
 ghost use Rattle.cells.specs.Cells.{accepted_side};
 ghost use Rattle.code_reading.specs.Reading.{side_named, cell_numeral, numbers_of, code_of, read_told, told_of_text};
 
-use bytes::scan::find;
 use cells::{SIDE_1_KM, SIDE_10_KM, SIDE_100_M, top_number};
 use grid_codes::CODE_MOST;
-use text::{Numeral, has_leading_zero, is_same, read_unsigned};
+use text::{Numeral, find, has_leading_zero, is_same, read_unsigned};
 use units::refusals::NOT_A_CODE;
 
 // The side and the numbers of the cell, or the refusal number alone.
