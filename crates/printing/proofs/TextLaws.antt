@@ -7,16 +7,10 @@ use Prim.Native.Nat.{ℕ, zero, suc, ◌+◌, ◌-◌, ◌≤◌, ◌<◌}
 use native.Mathlib.Nat.{le_of_suc-le-suc}
 use native.Mathlib.Omega.{arith}
 use lib.ListN.{length, take, drop}
-use lib.Seq.{take-length, drop-nil, drop-drop}
-use Rattle.bytes.specs.Bytes.{index_of, slice}
+use lib.Seq.{drop-nil, drop-drop}
 use Rattle.text.specs.Ascii.{newline}
-use Rattle.text.specs.Cutting.{after}
+use Rattle.text.specs.Cutting.{index_after, index_of, after}
 use Rattle.printing.specs.InnerTexts.{from_line, line_of}
-
--- what `find` searches, where it searches to the text's end
-pub slice_rest : (start : ℕ) (text : List ℕ) → slice start (length text) text ≡ drop start text
-unfolding slice
-slice_rest start text = ap (drop start) (take-length text)
 
 -- nothing follows the text's end
 drop_past : (n : ℕ) (text : List ℕ) → length text ≤ n → drop n text ≡ []
@@ -77,5 +71,5 @@ example : List ℕ
 example = 97 ∷ newline ∷ 98 ∷ 99 ∷ []
 
 example_lines : (line_of 0 example ≡ 97 ∷ []) × (line_of 1 example ≡ 98 ∷ 99 ∷ []) × (line_of 2 example ≡ [])
-unfolding example line_of from_line index_of
+unfolding example line_of from_line index_of index_after
 example_lines = (refl, refl, refl)

@@ -1,93 +1,86 @@
 // Writes what rows are made of to standard output; a number has a space before it. Each function gives back what it was
-// given to write: no contract can say what is written. Which line of a text it is, is what `line_text` requires.
+// given to write: no contract can say what is written, nor that it is, and a write that fails is let go. Which line of a
+// text it is, is what `line_text` requires.
 #![tactic(auto)]
 
 pub mod words;
 
 ghost use Rattle.std.specs.Prelude.{◌≡◌, ◌+◌, ◌≤◌, length, drop};
-ghost use Rattle.bytes.specs.Bytes.{index_of};
 ghost use Rattle.text.specs.Ascii.{newline};
+ghost use Rattle.text.specs.Cutting.{index_of};
 ghost use Rattle.printing.specs.InnerTexts.{from_line, line_of};
 
-use bytes::scan::find;
-use libc::STDOUT_FILENO;
+use text::find;
 
-fn text(bytes: &[u8]) {
-    io::write_all(STDOUT_FILENO, bytes);
+fn text(rt: &impl Print, bytes: &[u8]) {
+    let _ = rt.write_all(bytes);
 }
 
 // Writes bytes as they are and gives back how many.
-pub fn print(bytes: &[u8]) -> usize
+pub fn print(rt: &impl Print, bytes: &[u8]) -> usize
     ensures { result ≡ length bytes.now }
 {
-    text(bytes);
+    text(rt, bytes);
     bytes.len()
 }
 
-pub fn size(n: u64) -> u64
+pub fn size(rt: &impl Print, n: u64) -> u64
     ensures { result ≡ n }
 {
-    text(b" ");
-    io::print_decimal(STDOUT_FILENO, n);
+    let _ = print!(rt; " {n}");
     n
 }
 
 // Sixteen hexadecimal digits.
-pub fn bits(n: u64) -> u64
+pub fn bits(rt: &impl Print, n: u64) -> u64
     ensures { result ≡ n }
 {
-    text(b" ");
-    io::print_hex(STDOUT_FILENO, n, 16);
+    let _ = print!(rt; " {n:016x}");
     n
 }
 
-pub fn number(n: i64) -> i64
+pub fn number(rt: &impl Print, n: i64) -> i64
     ensures { result ≡ n }
 {
-    if n < 0 {
-        text(b" -");
-    } else {
-        text(b" ");
-    }
-    io::print_decimal(STDOUT_FILENO, integers::magnitude(n));
+    let _ = print!(rt; " {n}");
     n
 }
 
 // The end of a line that gives a name its value.
-pub fn value(n: i64) -> i64
+pub fn value(rt: &impl Print, n: i64) -> i64
     ensures { result ≡ n }
 {
-    text(b" =");
-    number(n);
-    text(b"\n");
+    text(rt, b" =");
+    number(rt, n);
+    text(rt, b"\n");
     n
 }
 
-pub fn size_value(n: u64) -> u64
+pub fn size_value(rt: &impl Print, n: u64) -> u64
     ensures { result ≡ n }
 {
-    text(b" =");
-    size(n);
-    text(b"\n");
+    text(rt, b" =");
+    size(rt, n);
+    text(rt, b"\n");
     n
 }
 
-pub fn refusal(n: u8) -> u8
+pub fn refusal(rt: &impl Print, n: u8) -> u8
     ensures { result ≡ n }
 {
-    text(b" refused");
-    size(n as u64);
+    text(rt, b" refused");
+    size(rt, n as u64);
     n
 }
 
 // How a row ends.
-pub fn verdict(right: bool) -> bool
+pub fn verdict(rt: &impl Print, right: bool) -> bool
     ensures { result ≡ right }
 {
     if right {
-        text(b": ok\n");
+        text(rt, b": ok\n");
     } else {
-        text(b": off\n");
+        text(rt, b": off\n");
     }
     right
 }
@@ -118,19 +111,19 @@ fn line_start(all: &[u8], k: usize) -> usize
 }
 
 // Writes line k of a text, which is `part` of it.
-fn line_text(all: &[u8], k: usize, part: &[u8])
+fn line_text(rt: &impl Print, all: &[u8], k: usize, part: &[u8])
     requires { part.now ≡ line_of k all.now }
 {
-    text(part);
+    text(rt, part);
 }
 
 // Line k of a text, counted from 0, without its end. A program has the names of its rows in one text: lent one by one
 // they make its check long.
-pub fn line(all: &[u8], k: usize) -> usize
+pub fn line(rt: &impl Print, all: &[u8], k: usize) -> usize
     ensures { result ≡ k }
 {
     let start = line_start(all, k);
     let end = line_end(all, start);
-    line_text(all, k, &all[start..end]);
+    line_text(rt, all, k, &all[start..end]);
     k
 }

@@ -63,10 +63,11 @@ pub const UNTOUCHED: usize = 28;
 
 pub const ELEMENT: usize = 29;
 
-pub fn word(k: usize) -> usize
+pub fn word(rt: &impl Print, k: usize) -> usize
     ensures { result ≡ k }
 {
     line(
+        rt,
         b" forward
  inverse
  degrees
