@@ -14,7 +14,7 @@ use Rattle.proof_kit.proofs.Order.{lt_z_true, lt_z_false, lt_le_z, le_le_z}
 use Rattle.units.specs.Units.{full_turn}
 use Rattle.parameters.proofs.AcceptedSet.{Accepted, accepted_fields}
 use Rattle.constants.specs.declared.Constants.{Constants}
-use Rattle.constants.specs.Derived.{constantsOf}
+use Rattle.constants.specs.Derived.{constants_of}
 use Rattle.constants.proofs.ConstantsLaws.{sound, sound_as}
 use Rattle.billionths.proofs.Calls.{back, back_is, fits_is}
 use Rattle.azimuthal_forward.specs.declared.Direction.{Direction}
@@ -43,7 +43,7 @@ abbrev nearness-of : tie.Start → ℤ
 nearness-of s = nearness s.args.p s.args.lat s.args.lon
 
 abbrev direction : tie.Start → Direction
-direction s = direction_of (constantsOf s.args.p) s.args.lat (Δ-of s)
+direction s = direction_of (constants_of s.args.p) s.args.lat (Δ-of s)
 
 is-on-globe-requires : tie.Need-is-on-globe-requires
 is-on-globe-requires c κs = search rules

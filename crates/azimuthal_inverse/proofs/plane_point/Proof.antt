@@ -14,7 +14,7 @@ use Rattle.units.specs.Spans.{on_plane}
 use Rattle.units.proofs.Spans.{plane_sizes}
 use Rattle.billionths.proofs.Calls.{back}
 use Rattle.parameters.proofs.AcceptedSet.{accepted_fields}
-use Rattle.azimuthal_inverse.specs.InnerStages.{reducedOf}
+use Rattle.azimuthal_inverse.specs.InnerStages.{reduced_of}
 use Rattle.azimuthal_inverse.proofs.StageLaws.{point_off_plane, point_on_plane}
 use Rattle.azimuthal_inverse.proofs.plane_point.Statement.{statement}
 use Rattle.azimuthal_inverse.proofs.plane_point.Tie as tie
@@ -72,7 +72,7 @@ returns-2 : tie.Need-returns-2
 returns-2 c =
     let e = c.before.before.before.before.before in
     let s = start-at-else1 e in
-    c.reduced.ensures ∙ ap₂ (reducedOf s.args.k) (easting e).is (northing e).is ∙ point_on_plane _ _ _ _ (on-it e)
+    c.reduced.ensures ∙ ap₂ (reduced_of s.args.k) (easting e).is (northing e).is ∙ point_on_plane _ _ _ _ (on-it e)
 
 pub plane-point-spec : {M : Type 1} → statement M
 plane-point-spec =

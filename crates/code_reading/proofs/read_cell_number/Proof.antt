@@ -62,10 +62,10 @@ module _ (c : tie.After-top-number) where
   is_number : unsigned_of false (digits else1.before) ≡ Number z
   is_number = sym c.before.before.before.before.read-unsigned.ensures ∙ c.before.before.number.given.1
 
-  top-is : to_z w64 (of_z w64 c.top-number.result) ≡ pos (top (nat_abs (side else1.before)))
+  top-is : to_z w64 (of_z w64 c.top_number.result) ≡ pos (top (nat_abs (side else1.before)))
   top-is =
-      returned c.top-number.type-inv
-      ∙ c.top-number.ensures
+      returned c.top_number.type-inv
+      ∙ c.top_number.ensures
       ∙ ap (λ (s : ℤ). pos (top (nat_abs s))) (to_z-of_z else1.before.before.before.fits.side)
 
 has-leading-zero-requires : tie.Need-has-leading-zero-requires

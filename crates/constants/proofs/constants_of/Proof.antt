@@ -12,7 +12,7 @@ use Rattle.trig.proofs.Interface.{sine_size, cosine_size}
 use Rattle.latitudes.specs.declared.AuthalicSeries.{AuthalicSeries}
 use Rattle.latitudes.specs.declared.Authalic.{Authalic}
 use Rattle.latitudes.specs.Latitude.{beta}
-use Rattle.constants.specs.Derived.{e4, e6, J, seriesOf, β0, S0, C0, D, Rq, RD, RN, constantsOf}
+use Rattle.constants.specs.Derived.{e4, e6, J, series_of, β0, S0, C0, D, Rq, RD, RN, constants_of}
 use Rattle.constants.proofs.SeriesLaws.{at_least, e4_size, J-high, series_small}
 use Rattle.parameters.proofs.AcceptedSet.{Accepted, accepted_fields, lat0_size}
 use Rattle.units.proofs.Spans.{Between}
@@ -112,8 +112,8 @@ j-is c = returned c.radius-ratio.type-inv ∙ c.radius-ratio.ensures ∙ ap J (e
 series-requires : tie.Need-series-requires
 series-requires c κs = radius-ratio-requires c.before κs
 
-series-is : (c : tie.After-series) → c.series.result ≡ seriesOf (from-series c).args.p.e2
-series-is c = c.series.ensures ∙ ap seriesOf (e2-is (from-series c))
+series-is : (c : tie.After-series) → c.series.result ≡ series_of (from-series c).args.p.e2
+series-is c = c.series.ensures ∙ ap series_of (e2-is (from-series c))
 
 -- ---- β0, S0 and C0
 
@@ -197,7 +197,7 @@ rn-is c =
     quotient_is c.quotient.type-inv c.quotient.ensures (rq-is before) (d-is (axis-at-product3 before))
 
 returns : tie.Need-returns
-unfolding constantsOf
+unfolding constants_of
 returns c =
     let quotient = c.before in
     let sines = sines-at-product3 quotient.before.before in

@@ -7,7 +7,7 @@ use lib.IntN.{ℤ, pos, nat_abs, ◌+ℤ◌, ◌*ℤ◌}
 use Rattle.proof_kit.proofs.Range.{code, fits, read, read_room, returned}
 use Rattle.proof_kit.proofs.Size.{as_size}
 use Rattle.integers.specs.Near.{near}
-use Rattle.constants.specs.Derived.{e4, k2, k4, k6, to_mas, seriesOf}
+use Rattle.constants.specs.Derived.{e4, k2, k4, k6, to_mas, series_of}
 use Rattle.constants.proofs.SeriesLaws.{e4_size, e6_size, k2_start_size, k2_size, k4_size, k6_size}
 use Rattle.billionths.proofs.Calls.{back, fits_is, back_is, near_is}
 use Rattle.constants.proofs.series.Statement.{statement}
@@ -151,7 +151,7 @@ in-mas-requires-3 c κs =
     rw (k6-is c.before.before) (omega (arith, k6_size start.args.e2 start.pre.0))
 
 returns : tie.Need-returns
-unfolding seriesOf
+unfolding series_of
 returns c =
     let six = c.before.before.before in
     let start = from-near6 six in
