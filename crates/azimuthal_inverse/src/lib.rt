@@ -32,14 +32,14 @@ use units::refusals::{OUT_OF_LIMITS, TOO_FAR};
 use units::{are_within, is_on_plane, wrap};
 
 // Latitude and longitude in mas, or the refusal number alone.
-#[derive(Drop)]
+#[derive(Clone, Copy)]
 pub enum GeodeticAnswer {
     Position { latitude: Geodetic, longitude: i64 },
     Refused(u8),
 }
 
 // The answers for two points.
-#[derive(Drop)]
+#[derive(Clone, Copy)]
 pub struct GeodeticAnswers {
     pub first: GeodeticAnswer,
     pub second: GeodeticAnswer,
@@ -64,7 +64,7 @@ fn is_origin(de: i64, dn: i64) -> bool
 
 // A point of the plane as the steps take it. `refusal` is 3, 4, or 0 for none. Of a refused point and of the
 // false origin X, Y and K are 0, so that the roots may be taken for any point.
-#[derive(Drop)]
+#[derive(Clone, Copy)]
 struct PlanePoint {
     refusal: u8,
     origin: bool,

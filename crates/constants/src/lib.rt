@@ -15,7 +15,7 @@ use sine_table::Table;
 use units::UNIT;
 
 // In document 01's names: S0, C0 in billionths; RD, RN in cm.
-#[derive(Drop)]
+#[derive(Clone, Copy)]
 pub struct Constants {
     pub series: AuthalicSeries,
     pub s0: i64,

@@ -65,7 +65,7 @@ module _ (c : tie.After-terms_error) where
   y-small : nat_abs c.before.near-y.result ≤ 47_000_000
   y-small =
       rw c.before.near-y.ensures
-      (near_at_most _ unit 47_000_000 (lit< tt) (rw (returned lines.three_lines-about.ok) (about-small lines)))
+      (near_at_most _ unit 47_000_000 (lit< tt) (rw (returned lines.three_lines-about.type_inv) (about-small lines)))
 
   error-is : c.terms_error.result ≡ terms_error (k lines).k2 (k lines).k4 (k lines).k6
   error-is =
@@ -84,7 +84,7 @@ unfolding rounded terms
 returns c =
     let e = c.before.before in
     let l = lines e in
-    sym (safe_told (about l) _ c.before.is_safe.ensures c.if-is_safe.true (returned l.three_lines-about.ok) (error-is e) (exact l) (close l))
+    sym (safe_told (about l) _ c.before.is_safe.ensures c.if-is_safe.true (returned l.three_lines-about.type_inv) (error-is e) (exact l) (close l))
 
 three-terms-requires : tie.Need-three_terms-requires
 three-terms-requires c κs =
