@@ -10,33 +10,33 @@ use Rattle.pairs.specs.declared.GeodeticPairAnswer.TheVariants.{Degrees}
 use Rattle.pairs.proofs.in_degrees.Statement.{statement}
 use Rattle.pairs.proofs.in_degrees.Tie as tie
 
-enum-known-answer : tie.Need-enum-known-answer
+enum-known-answer : tie.Need-enum_known-answer
 enum-known-answer c = search rules
 
-mas-to-degrees-requires : tie.Need-mas-to-degrees-requires
+mas-to-degrees-requires : tie.Need-mas_to_degrees-requires
 mas-to-degrees-requires c κs = search rules
 
-mas-to-degrees-requires-2 : tie.Need-mas-to-degrees-requires-2
+mas-to-degrees-requires-2 : tie.Need-mas_to_degrees-requires-in-Position
 mas-to-degrees-requires-2 c κs = search rules
 
-enum-known-answer-2 : tie.Need-enum-known-answer-2
+enum-known-answer-2 : tie.Need-enum_known-answer-in-Refused-1
 enum-known-answer-2 c = search rules
 
 pair : {x x' y y' : Float} → x ≡ x' → y ≡ y' → Degrees (record { latitude = x; longitude = y }) ≡ Degrees (record { latitude = x'; longitude = y' })
 pair e f = rw (e, f)
 
-returns : tie.Need-returns
+returns : tie.Need-returns-in-Position
 returns c =
     let answer = c.before.before.before.before in
-    pair (c.before.mas-to-degrees.ensures ∙ ap (float_of degree) (to_z-of_z (search rules)))
-    (c.mas-to-degrees2.ensures ∙ ap (float_of degree) (to_z-of_z (search rules)))
+    pair (c.before.mas_to_degrees.ensures ∙ ap (float_of degree) (to_z-of_z (search rules)))
+    (c.mas_to_degrees-in-Position.ensures ∙ ap (float_of degree) (to_z-of_z (search rules)))
     ∙ sym (ap in_degrees answer.answer.given.1)
 
-returns-2 : tie.Need-returns-2
-returns-2 c = sym (ap in_degrees c.before.answer2.given.1)
+returns-2 : tie.Need-returns-in-Refused
+returns-2 c = sym (ap in_degrees c.before.answer-in-Refused-1.given.1)
 
-pub in-degrees-spec : {M : Type 1} → statement M
-in-degrees-spec =
+pub in_degrees_spec : {M : Type 1} → statement M
+in_degrees_spec =
     tie.close
     (tie.spec
     enum-known-answer

@@ -6,18 +6,18 @@ use Rattle.pairs.specs.Pairs.{plane_row}
 use Rattle.pairs.proofs.plane_row.Statement.{statement}
 use Rattle.pairs.proofs.plane_row.Tie as tie
 
-enum-known-answer : tie.Need-enum-known-answer
+enum-known-answer : tie.Need-enum_known-answer
 enum-known-answer c = search rules
 
-enum-known-answer-2 : tie.Need-enum-known-answer-2
+enum-known-answer-2 : tie.Need-enum_known-answer-in-Refused-1
 enum-known-answer-2 c = search rules
 
-returns : tie.Need-returns
-returns c = sym (ap plane_row c.before.answer.given.1)
+returns : tie.Need-returns-in-Metres
+returns c = sym (ap plane_row c.before.answer-1.given.1)
 
-returns-2 : tie.Need-returns-2
+returns-2 : tie.Need-returns-in-Refused
 unfolding of_bits
-returns-2 c = sym (ap plane_row c.before.answer2.given.1)
+returns-2 c = sym (ap plane_row c.before.answer-in-Refused-1.given.1)
 
-pub plane-row-spec : {M : Type 1} → statement M
-plane-row-spec = tie.close (tie.spec enum-known-answer enum-known-answer-2 returns returns-2)
+pub plane_row_spec : {M : Type 1} → statement M
+plane_row_spec = tie.close (tie.spec enum-known-answer enum-known-answer-2 returns returns-2)
