@@ -12,10 +12,10 @@ use Rattle.round_trip.proofs.there_and_back.Tie as tie
 
 -- ---- the forward answer
 
-abbrev forward-at-easting : tie.After-easting → tie.After-forward
+abbrev forward-at-easting : tie.In-Plane-2 → tie.After-forward
 forward-at-easting c = c.before.before
 
-abbrev forward-at-n : tie.After-n → tie.After-forward
+abbrev forward-at-n : tie.In-Refused-2 → tie.After-forward
 forward-at-n c = c.before.before
 
 there : (c : tie.After-forward) → c.forward.result ≡ forward_of c.before.args.p c.before.args.lat c.before.args.lon
@@ -28,17 +28,17 @@ there c =
 forward-requires : tie.Need-forward-requires
 forward-requires c κs = search rules
 
-enum-known-easting : tie.Need-enum-known-easting
+enum-known-easting : tie.Need-enum_known-easting
 enum-known-easting c = search rules
 
 inverse-requires : tie.Need-inverse-requires
 inverse-requires c κs = search rules
 
-enum-known-n : tie.Need-enum-known-n
+enum-known-n : tie.Need-enum_known-n
 enum-known-n c = search rules
 
 -- the arm of an accepted answer
-returns : tie.Need-returns
+returns : tie.Need-returns-in-Plane
 unfolding there_and_back
 returns c =
     let plane = c.before.before in
@@ -49,7 +49,7 @@ returns c =
     (is, meets_demand_3 p start.args.lat start.args.lon _ is)
 
 -- the arm of a refusal
-returns-2 : tie.Need-returns-2
+returns-2 : tie.Need-returns-in-Refused
 unfolding there_and_back
 returns-2 c =
     let refused = c.before in
@@ -59,7 +59,7 @@ returns-2 c =
     let is = ap (there_and_back p) (sym refused.n.given.1 ∙ there forward) in
     (is, meets_demand_3 p start.args.lat start.args.lon _ is)
 
-pub there-and-back-spec : {M : Type 1} → statement M
-there-and-back-spec =
+pub there_and_back_spec : {M : Type 1} → statement M
+there_and_back_spec =
     tie.close
     (tie.spec forward-requires enum-known-easting inverse-requires enum-known-n returns returns-2)
