@@ -57,7 +57,7 @@ fill-requires c κs =
     let constants = c.before.before.before in
     let table = constants.before.before.before in
     let accepted = table.before in (
-      record { table = table.table-t.ensures; set-accepted = set-accepted accepted; constants = constants.constants_of.ensures },
+      record { table = table.table-t.ensures; set_accepted = set-accepted accepted; constants = constants.constants_of.ensures },
       equal_lengths _ _ _ _ _ (lengths-accepted (else1 accepted)),
     )
 
@@ -75,7 +75,7 @@ same-length-3 c = search rules
 
 -- past all calls: where the lists were filled, and where the set was accepted
 abbrev filled : tie.After-count_zeros → tie.After-fill
-filled c = c.before.before.before.before.before.before.before.before
+filled c = c.before.before.before.before.before.before.before
 
 abbrev accepted : tie.After-fill → tie.Else-by_set-ne0
 accepted c = c.before.before.before.before.before.before.before.before
