@@ -59,7 +59,7 @@ def respelled(name):
 
 
 def is_function_proof(path):
-    return path.endswith("/Proof.antt")
+    return path.endswith(("/Proof.antt", "/Answers.antt", "/Invariants.antt"))
 
 
 def declared(text):
@@ -68,7 +68,7 @@ def declared(text):
         m = re.match(r"((?:(?:pub|unfoldable|abbrev|ruleset|axiom|data|record)\s+)*)(" + WORD + r")\s*(?:\{.*|\(.*|:\s.*|:)$", line)
         if m and m.group(2) not in ("use", "open", "mod", "unfolding", "infix", "infixl", "infixr"):
             tops.add(m.group(2))
-        m = re.match(r"\s+(?:pub\s+)?(" + WORD + r")\s+:(?:\s|$)", line)
+        m = re.match(r"\s+(?:(?:pub|unfoldable|abbrev|ruleset|data|record)\s+)*(" + WORD + r")\s+:(?:\s|$)", line)
         if m:
             fields.add(m.group(1))
     return tops, fields

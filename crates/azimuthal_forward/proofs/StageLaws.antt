@@ -19,7 +19,7 @@ use Rattle.latitudes.specs.declared.Geodetic.{Geodetic}
 use Rattle.parameters.specs.declared.Parameters.{Parameters}
 use Rattle.parameters.specs.ParameterSet.{set_refusal}
 use Rattle.constants.specs.declared.Constants.{Constants}
-use Rattle.constants.specs.Derived.{constantsOf}
+use Rattle.constants.specs.Derived.{constants_of}
 use Rattle.constants.specs.InnerPrepared.{Prepared}
 use Rattle.constants.proofs.ConstantsLaws.{sound}
 use Rattle.billionths.proofs.Calls.{back}
@@ -28,7 +28,7 @@ use Rattle.azimuthal_forward.specs.declared.PlaneAnswer.{PlaneAnswer}
 use Rattle.azimuthal_forward.specs.declared.PlaneAnswer.TheVariants.{Plane, Refused}
 use Rattle.azimuthal_forward.specs.declared.BeforeRoot.{BeforeRoot}
 use Rattle.azimuthal_forward.specs.Steps.{H, dE, dN, near_enough, direction_of}
-use Rattle.azimuthal_forward.specs.Answer.{on_globe, nearness, forwardFar, forwardRefusal, eastingOf, northingOf, forward_of}
+use Rattle.azimuthal_forward.specs.Answer.{on_globe, nearness, forward_far, forward_refusal, easting_of, northing_of, forward_of}
 use Rattle.azimuthal_forward.specs.InnerStages.{refused_before, before_root, AfterRoot, after_root}
 use Rattle.azimuthal_forward.proofs.ForwardLaws.{u_size, w_size, G-size, H-least, H-most}
 
@@ -47,7 +47,7 @@ centre_bounded n = record { u_size = lit≤ tt; w_size = lit≤ tt; g_least = po
 
 -- an accepted position
 abbrev pub accepted_before : Parameters → Geodetic → ℤ → BeforeRoot
-accepted_before p φ lon = record { refusal = 0; direction = direction_of (constantsOf p) φ (lon -ℤ p.lon0) }
+accepted_before p φ lon = record { refusal = 0; direction = direction_of (constants_of p) φ (lon -ℤ p.lon0) }
 
 module _ (p : Parameters) (φ : Geodetic) (lon : ℤ) where
   pub before_off_globe : on_globe φ lon ≡ false → before_root p φ lon ≡ refused_before 3
@@ -55,11 +55,11 @@ module _ (p : Parameters) (φ : Geodetic) (lon : ℤ) where
   before_off_globe e = rw e
 
   pub before_too_far : on_globe φ lon ≡ true → near_enough (nearness p φ lon) ≡ false → before_root p φ lon ≡ refused_before 4
-  unfolding before_root forwardFar
+  unfolding before_root forward_far
   before_too_far e f = rw (e, f)
 
   pub before_accepted : on_globe φ lon ≡ true → near_enough (nearness p φ lon) ≡ true → before_root p φ lon ≡ accepted_before p φ lon
-  unfolding before_root forwardFar
+  unfolding before_root forward_far
   before_accepted e f = rw (e, f)
 
 -- ---- the two stages
@@ -77,7 +77,7 @@ module _ (p : Parameters) (φ : Geodetic) (lon : ℤ) (ok : set_refusal p ≡ 0)
       }
 
   direction_bounded : Bounded (before_root p φ lon).direction
-  unfolding before_root forwardFar
+  unfolding before_root forward_far
   direction_bounded = at (on_globe φ lon) (near_enough (nearness p φ lon)) refl
     where
       at :
@@ -88,14 +88,14 @@ module _ (p : Parameters) (φ : Geodetic) (lon : ℤ) (ok : set_refusal p ≡ 0)
       at true false e = centre_bounded 4
       at true true e = accepted_bounded e
 
-  after_before : after_root p (constantsOf p) (before_root p φ lon) (H (before_root p φ lon).direction.g) ≡ forward_of p φ lon
-  unfolding before_root refused_before after_root forward_of forwardRefusal eastingOf northingOf dE dN direction_of
-  after_before = rw ok (at (unless (on_globe φ lon) out_of_limits (forwardFar p φ lon)))
+  after_before : after_root p (constants_of p) (before_root p φ lon) (H (before_root p φ lon).direction.g) ≡ forward_of p φ lon
+  unfolding before_root refused_before after_root forward_of forward_refusal easting_of northing_of dE dN direction_of
+  after_before = rw ok (at (unless (on_globe φ lon) out_of_limits (forward_far p φ lon)))
     where
       at :
           (n : ℕ) →
           let before = answered refused_before n (accepted_before p φ lon) in
-          after_root p (constantsOf p) before (H before.direction.g) ≡ answered Refused n (Plane (eastingOf p φ lon) (northingOf p φ lon))
+          after_root p (constants_of p) before (H before.direction.g) ≡ answered Refused n (Plane (easting_of p φ lon) (northing_of p φ lon))
       at zero = refl
       at (suc n) = refl
 

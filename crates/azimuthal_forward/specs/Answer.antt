@@ -8,7 +8,7 @@ use Rattle.units.specs.Answers.{accepted, refused, answered}
 use Rattle.latitudes.specs.declared.Geodetic.{Geodetic}
 use Rattle.parameters.specs.declared.Parameters.{Parameters}
 use Rattle.parameters.specs.ParameterSet.{set_refusal}
-use Rattle.constants.specs.Derived.{constantsOf}
+use Rattle.constants.specs.Derived.{constants_of}
 use Rattle.azimuthal_forward.specs.declared.PlaneAnswer.{PlaneAnswer}
 use Rattle.azimuthal_forward.specs.declared.PlaneAnswer.TheVariants.{Plane, Refused}
 use Rattle.azimuthal_forward.specs.Steps.{near_enough, G, dE, dN}
@@ -21,22 +21,22 @@ on_globe φ lon = inside right_angle φ.0 && inside half_turn lon
 module _ (p : Parameters) (φ : Geodetic) (lon : ℤ) where
   -- the nearness of the position in the forward steps
   unfoldable pub nearness : ℤ
-  nearness = G (constantsOf p) φ (lon -ℤ p.lon0)
+  nearness = G (constants_of p) φ (lon -ℤ p.lon0)
 
   -- "G below 20,000,000: refused 4"
-  unfoldable pub forwardFar : ℕ
-  forwardFar = unless (near_enough nearness) too_far 0
+  unfoldable pub forward_far : ℕ
+  forward_far = unless (near_enough nearness) too_far 0
 
   -- the set's number, 3, 4, in this order, each exactly under its condition
-  unfoldable pub forwardRefusal : ℕ
-  forwardRefusal = first_refusal (set_refusal p) (unless (on_globe φ lon) out_of_limits forwardFar)
+  unfoldable pub forward_refusal : ℕ
+  forward_refusal = first_refusal (set_refusal p) (unless (on_globe φ lon) out_of_limits forward_far)
 
   -- "E = FE + near(RD·u/H); N = FN + near(RN·w/H)"
-  unfoldable pub eastingOf : ℤ
-  eastingOf = p.false_easting +ℤ dE (constantsOf p) φ (lon -ℤ p.lon0)
+  unfoldable pub easting_of : ℤ
+  easting_of = p.false_easting +ℤ dE (constants_of p) φ (lon -ℤ p.lon0)
 
-  unfoldable pub northingOf : ℤ
-  northingOf = p.false_northing +ℤ dN (constantsOf p) φ (lon -ℤ p.lon0)
+  unfoldable pub northing_of : ℤ
+  northing_of = p.false_northing +ℤ dN (constants_of p) φ (lon -ℤ p.lon0)
 
 -- the number and the values of each case
 abbrev pub plane_told : PlaneAnswer → Told
@@ -45,7 +45,7 @@ plane_told (Refused number) = refused number
 
 -- what `forward` answers, and what its answer tells
 unfoldable pub forward_of : Parameters → Geodetic → ℤ → PlaneAnswer
-forward_of p φ lon = answered Refused (forwardRefusal p φ lon) (Plane (eastingOf p φ lon) (northingOf p φ lon))
+forward_of p φ lon = answered Refused (forward_refusal p φ lon) (Plane (easting_of p φ lon) (northing_of p φ lon))
 
 unfoldable pub forward_told : Parameters → Geodetic → ℤ → Told
-forward_told p φ lon = answered refused (forwardRefusal p φ lon) (accepted (eastingOf p φ lon) (northingOf p φ lon))
+forward_told p φ lon = answered refused (forward_refusal p φ lon) (accepted (easting_of p φ lon) (northing_of p φ lon))

@@ -8,13 +8,13 @@ use Rattle.latitudes.specs.declared.Geodetic.{Geodetic}
 use Rattle.parameters.specs.declared.Parameters.{Parameters}
 use Rattle.parameters.specs.ParameterSet.{set_refusal}
 use Rattle.constants.specs.declared.Constants.{Constants}
-use Rattle.constants.specs.Derived.{constantsOf}
+use Rattle.constants.specs.Derived.{constants_of}
 use Rattle.azimuthal_forward.specs.declared.Direction.{Direction}
 use Rattle.azimuthal_forward.specs.declared.PlaneAnswer.{PlaneAnswer}
 use Rattle.azimuthal_forward.specs.declared.PlaneAnswer.TheVariants.{Plane, Refused}
 use Rattle.azimuthal_forward.specs.declared.BeforeRoot.{BeforeRoot}
 use Rattle.azimuthal_forward.specs.Steps.{direction_of}
-use Rattle.azimuthal_forward.specs.Answer.{on_globe, forwardFar}
+use Rattle.azimuthal_forward.specs.Answer.{on_globe, forward_far}
 
 -- a refused position: its number, and the direction of the centre
 unfoldable pub refused_before : ℕ → BeforeRoot
@@ -23,13 +23,13 @@ refused_before number = record { refusal = number; direction = record { u = pos 
 -- the steps up to the nearness: an accepted position has its own direction
 unfoldable pub before_root : Parameters → Geodetic → ℤ → BeforeRoot
 before_root p φ lon =
-    answered refused_before (unless (on_globe φ lon) out_of_limits (forwardFar p φ lon))
-    (record { refusal = 0; direction = direction_of (constantsOf p) φ (lon -ℤ p.lon0) })
+    answered refused_before (unless (on_globe φ lon) out_of_limits (forward_far p φ lon))
+    (record { refusal = 0; direction = direction_of (constants_of p) φ (lon -ℤ p.lon0) })
 
 -- What the steps after the root are handed: an accepted set, its constants, and a direction and a root of these sizes.
 pub record AfterRoot (p : Parameters) (k : Constants) (d : Direction) (h : ℕ) : Type 0 where
   pub set_accepted : set_refusal p ≡ 0
-  pub constants : k ≡ constantsOf p
+  pub constants : k ≡ constants_of p
   pub u_size : nat_abs d.u ≤ 2_000_000_000
   pub w_size : nat_abs d.w ≤ 2_000_000_000
   pub h_least : 100_000_000 ≤ h

@@ -23,21 +23,21 @@ use units::refusals::{OUT_OF_LIMITS, TOO_FAR};
 use units::{LATITUDE_LEAST, LATITUDE_MOST, LONGITUDE_LEAST, LONGITUDE_MOST, UNIT, are_within};
 
 // Easting and northing in cm, or the refusal number alone.
-#[derive(Drop)]
+#[derive(Clone, Copy)]
 pub enum PlaneAnswer {
     Plane { easting: i64, northing: i64 },
     Refused(u8),
 }
 
 // The answers for two positions.
-#[derive(Drop)]
+#[derive(Clone, Copy)]
 pub struct PlaneAnswers {
     pub first: PlaneAnswer,
     pub second: PlaneAnswer,
 }
 
 // Where a position lies as seen from the centre: u, w and the nearness G of document 01.
-#[derive(Drop)]
+#[derive(Clone, Copy)]
 pub struct Direction {
     pub u: i64,
     pub w: i64,
@@ -46,7 +46,7 @@ pub struct Direction {
 
 // What the steps before the root H give: 3, 4 or 0, and the direction; a refused position has that of
 // the centre, so that its root can be taken with another's.
-#[derive(Drop)]
+#[derive(Clone, Copy)]
 struct BeforeRoot {
     refusal: u8,
     direction: Direction,

@@ -17,7 +17,7 @@ use Rattle.billionths.proofs.Calls.{back}
 use Rattle.parameters.specs.declared.Parameters.{Parameters}
 use Rattle.parameters.specs.ParameterSet.{set_refusal}
 use Rattle.constants.specs.declared.Constants.{Constants}
-use Rattle.constants.specs.Derived.{constantsOf}
+use Rattle.constants.specs.Derived.{constants_of}
 use Rattle.constants.specs.InnerPrepared.{BoundedCentre, Prepared}
 use Rattle.constants.proofs.ConstantsLaws.{Sound, sound, sound_as}
 use Rattle.azimuthal_forward.specs.Steps.{near_enough}
@@ -28,8 +28,8 @@ use Rattle.sphere_points.proofs.SphereLaws.{K-near, G-least, G-most, point_sized
 use Rattle.azimuthal_inverse.specs.declared.PlanePoint.{PlanePoint}
 use Rattle.azimuthal_inverse.specs.declared.GeodeticAnswer.{GeodeticAnswer}
 use Rattle.azimuthal_inverse.specs.Steps.{at_origin, on_map, K, found}
-use Rattle.azimuthal_inverse.specs.Answer.{answerFrom, inverse_of}
-use Rattle.azimuthal_inverse.specs.InnerStages.{answered_early, answeredBySteps, reducedOf, plane_point_of, SmallPlanePoint, sphere_point_of, answer_of}
+use Rattle.azimuthal_inverse.specs.Answer.{answer_from, inverse_of}
+use Rattle.azimuthal_inverse.specs.InnerStages.{answered_early, answered_by_steps, reduced_of, plane_point_of, SmallPlanePoint, sphere_point_of, answer_of}
 use Rattle.azimuthal_inverse.proofs.InverseLaws.{K-natural, map_sizes}
 use Rattle.azimuthal_inverse.proofs.AnswerLaws.{from_origin, from_off_map, from_too_far, from_position, inverse_off_plane, inverse_on_plane}
 
@@ -40,27 +40,27 @@ pub data Outcome (k : Constants) (dE dN : ℤ) : PlanePoint → Type 0 where
   origin : at_origin dE dN ≡ true → Outcome k dE dN (answered_early 0 true)
   off_map : at_origin dE dN ≡ false → on_map k dE dN ≡ false → Outcome k dE dN (answered_early 4 false)
   too_far : at_origin dE dN ≡ false → on_map k dE dN ≡ true → near_enough (G (K k dE dN)) ≡ false → Outcome k dE dN (answered_early 4 false)
-  stepped : at_origin dE dN ≡ false → on_map k dE dN ≡ true → near_enough (G (K k dE dN)) ≡ true → Outcome k dE dN (answeredBySteps k dE dN)
+  stepped : at_origin dE dN ≡ false → on_map k dE dN ≡ true → near_enough (G (K k dE dN)) ≡ true → Outcome k dE dN (answered_by_steps k dE dN)
 
 module _ (k : Constants) (dE dN : ℤ) where
-  pub outcome_is : {q : PlanePoint} → Outcome k dE dN q → q ≡ reducedOf k dE dN
-  unfolding reducedOf
+  pub outcome_is : {q : PlanePoint} → Outcome k dE dN q → q ≡ reduced_of k dE dN
+  unfolding reduced_of
   outcome_is (origin e) = rw e
   outcome_is (off_map e f) = rw (e, f)
   outcome_is (too_far e f g) = rw (e, f, g)
   outcome_is (stepped e f g) = rw (e, f, g)
 
-  outcome : Outcome k dE dN (reducedOf k dE dN)
+  outcome : Outcome k dE dN (reduced_of k dE dN)
   outcome = at (at_origin dE dN) refl (on_map k dE dN) refl (near_enough (G (K k dE dN))) refl
     where
-      reached : {q : PlanePoint} → Outcome k dE dN q → Outcome k dE dN (reducedOf k dE dN)
+      reached : {q : PlanePoint} → Outcome k dE dN q → Outcome k dE dN (reduced_of k dE dN)
       reached o = subst (Outcome k dE dN) (outcome_is o) o
 
       at :
           (o : Bool) → at_origin dE dN ≡ o →
           (m : Bool) → on_map k dE dN ≡ m →
           (n : Bool) → near_enough (G (K k dE dN)) ≡ n →
-          Outcome k dE dN (reducedOf k dE dN)
+          Outcome k dE dN (reduced_of k dE dN)
       at true e m f n g = reached (origin e)
       at false e false f n g = reached (off_map e f)
       at false e true f false g = reached (too_far e f g)
@@ -87,7 +87,7 @@ outcome_small k sound dE dN (stepped e f g) =
 -- ---- the answer of a point counted from the false origin
 
 outcome_answer : (p : Parameters) (k : Constants) (dE dN : ℤ) {q : PlanePoint} → Outcome k dE dN q →
-    answer_of p k q (sphere_point_of k q) ≡ answerFrom p k dE dN
+    answer_of p k q (sphere_point_of k q) ≡ answer_from p k dE dN
 unfolding answer_of found
 outcome_answer p k dE dN (origin e) = sym (from_origin p k dE dN e)
 outcome_answer p k dE dN (off_map e f) = sym (from_off_map p k dE dN e f)
@@ -101,13 +101,13 @@ module _ (p : Parameters) (k : Constants) (E N : ℤ) where
   unfolding plane_point_of
   point_off_plane e = rw e
 
-  pub point_on_plane : on_plane E N ≡ true → reducedOf k (E -ℤ p.false_easting) (N -ℤ p.false_northing) ≡ plane_point_of p k E N
+  pub point_on_plane : on_plane E N ≡ true → reduced_of k (E -ℤ p.false_easting) (N -ℤ p.false_northing) ≡ plane_point_of p k E N
   unfolding plane_point_of
   point_on_plane e = rw e
 
 module _ (p : Parameters) (ok : set_refusal p ≡ 0) (E N : ℤ) where
   abbrev k : Constants
-  k = constantsOf p
+  k = constants_of p
 
   abbrev dE : ℤ
   dE = E -ℤ p.false_easting

@@ -9,7 +9,7 @@ use Rattle.geodetic_search.specs.Reverse.{geodetic}
 use Rattle.parameters.specs.declared.Parameters.{Parameters}
 use Rattle.parameters.specs.ParameterSet.{set_refusal}
 use Rattle.constants.specs.declared.Constants.{Constants}
-use Rattle.constants.specs.Derived.{constantsOf}
+use Rattle.constants.specs.Derived.{constants_of}
 use Rattle.azimuthal_forward.specs.Steps.{near_enough}
 use Rattle.azimuthal_inverse.specs.declared.GeodeticAnswer.{GeodeticAnswer}
 use Rattle.azimuthal_inverse.specs.declared.GeodeticAnswer.TheVariants.{Position, Refused}
@@ -19,34 +19,34 @@ use Rattle.sphere_points.specs.Sphere.{G, latitude_of, longitude_of}
 -- A set, its constants and a point counted from the false origin: "dE = E − FE, dN = N − FN".
 module _ (p : Parameters) (k : Constants) (dE dN : ℤ) where
   -- "Both zero: answer (φ0, lon0)", so 4 is not asked there. "dE beyond ±2·RD or dN beyond ±2·RN: refused 4"; "under 20,000,000: refused 4"
-  unfoldable pub farFrom : ℕ
-  farFrom =
+  unfoldable pub far_from : ℕ
+  far_from =
       cond (at_origin dE dN) 0 (unless (on_map k dE dN) too_far (unless (near_enough (G (K k dE dN))) too_far 0))
 
-  unfoldable pub latitudeFrom : Geodetic
-  latitudeFrom = cond (at_origin dE dN) p.lat0 (geodetic k.series (latitude_of (found k dE dN)))
+  unfoldable pub latitude_from : Geodetic
+  latitude_from = cond (at_origin dE dN) p.lat0 (geodetic k.series (latitude_of (found k dE dN)))
 
   -- "lon = lon0 + Δ brought above −180° and to at most 180°"
-  unfoldable pub longitudeFrom : ℤ
-  longitudeFrom = cond (at_origin dE dN) p.lon0 (wrapped (p.lon0 +ℤ longitude_of (found k dE dN)))
+  unfoldable pub longitude_from : ℤ
+  longitude_from = cond (at_origin dE dN) p.lon0 (wrapped (p.lon0 +ℤ longitude_of (found k dE dN)))
 
-  abbrev pub answerFrom : GeodeticAnswer
-  answerFrom = answered Refused farFrom (Position latitudeFrom longitudeFrom)
+  abbrev pub answer_from : GeodeticAnswer
+  answer_from = answered Refused far_from (Position latitude_from longitude_from)
 
 -- A set, an easting and a northing.
 module _ (p : Parameters) (E N : ℤ) where
-  unfoldable pub inverseFar : ℕ
-  inverseFar = farFrom p (constantsOf p) (E -ℤ p.false_easting) (N -ℤ p.false_northing)
+  unfoldable pub inverse_far : ℕ
+  inverse_far = far_from p (constants_of p) (E -ℤ p.false_easting) (N -ℤ p.false_northing)
 
   -- the set's number, 3, 4, in this order, each exactly under its condition
-  unfoldable pub inverseRefusal : ℕ
-  inverseRefusal = first_refusal (set_refusal p) (unless (on_plane E N) out_of_limits inverseFar)
+  unfoldable pub inverse_refusal : ℕ
+  inverse_refusal = first_refusal (set_refusal p) (unless (on_plane E N) out_of_limits inverse_far)
 
-  unfoldable pub inverseLatitude : Geodetic
-  inverseLatitude = latitudeFrom p (constantsOf p) (E -ℤ p.false_easting) (N -ℤ p.false_northing)
+  unfoldable pub inverse_latitude : Geodetic
+  inverse_latitude = latitude_from p (constants_of p) (E -ℤ p.false_easting) (N -ℤ p.false_northing)
 
-  unfoldable pub inverseLongitude : ℤ
-  inverseLongitude = longitudeFrom p (constantsOf p) (E -ℤ p.false_easting) (N -ℤ p.false_northing)
+  unfoldable pub inverse_longitude : ℤ
+  inverse_longitude = longitude_from p (constants_of p) (E -ℤ p.false_easting) (N -ℤ p.false_northing)
 
 -- the number and the values of each case
 abbrev pub geodetic_told : GeodeticAnswer → Told
@@ -55,7 +55,7 @@ geodetic_told (Refused number) = refused number
 
 -- what `inverse` answers, and what its answer tells
 unfoldable pub inverse_of : Parameters → ℤ → ℤ → GeodeticAnswer
-inverse_of p E N = answered Refused (inverseRefusal p E N) (Position (inverseLatitude p E N) (inverseLongitude p E N))
+inverse_of p E N = answered Refused (inverse_refusal p E N) (Position (inverse_latitude p E N) (inverse_longitude p E N))
 
 unfoldable pub inverse_told : Parameters → ℤ → ℤ → Told
-inverse_told p E N = answered refused (inverseRefusal p E N) (accepted (inverseLatitude p E N).0 (inverseLongitude p E N))
+inverse_told p E N = answered refused (inverse_refusal p E N) (accepted (inverse_latitude p E N).0 (inverse_longitude p E N))

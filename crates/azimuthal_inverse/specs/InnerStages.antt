@@ -7,7 +7,7 @@ use Rattle.units.specs.Answers.{answered}
 use Rattle.parameters.specs.declared.Parameters.{Parameters}
 use Rattle.parameters.specs.ParameterSet.{set_refusal}
 use Rattle.constants.specs.declared.Constants.{Constants}
-use Rattle.constants.specs.Derived.{constantsOf}
+use Rattle.constants.specs.Derived.{constants_of}
 use Rattle.azimuthal_forward.specs.Steps.{near_enough}
 use Rattle.sphere_points.specs.declared.SpherePoint.{SpherePoint}
 use Rattle.sphere_points.specs.Sphere.{G, point_of, latitude_of, longitude_of}
@@ -26,7 +26,7 @@ position_of series lon0 s = Position (geodetic series (latitude_of s)) (wrapped 
 pub record OfAcceptedSet (k : Constants) : Type 0 where
   pub set : Parameters
   pub set_accepted : set_refusal set ≡ 0
-  pub constants : k ≡ constantsOf set
+  pub constants : k ≡ constants_of set
 
 -- ---- the point of the plane
 
@@ -36,17 +36,17 @@ answered_early number origin = record { refusal = number; origin = origin; x = p
 
 -- counted from the false origin
 module _ (k : Constants) (dE dN : ℤ) where
-  abbrev pub answeredBySteps : PlanePoint
-  answeredBySteps = record { refusal = 0; origin = false; x = X k dE; y = Y k dN; versed = K k dE dN }
+  abbrev pub answered_by_steps : PlanePoint
+  answered_by_steps = record { refusal = 0; origin = false; x = X k dE; y = Y k dN; versed = K k dE dN }
 
-  unfoldable pub reducedOf : PlanePoint
-  reducedOf =
+  unfoldable pub reduced_of : PlanePoint
+  reduced_of =
       cond (at_origin dE dN) (answered_early 0 true)
-      (cond (on_map k dE dN) (cond (near_enough (G (K k dE dN))) answeredBySteps (answered_early too_far false)) (answered_early too_far false))
+      (cond (on_map k dE dN) (cond (near_enough (G (K k dE dN))) answered_by_steps (answered_early too_far false)) (answered_early too_far false))
 
 unfoldable pub plane_point_of : Parameters → Constants → ℤ → ℤ → PlanePoint
 plane_point_of p k E N =
-    cond (on_plane E N) (reducedOf k (E -ℤ p.false_easting) (N -ℤ p.false_northing)) (answered_early out_of_limits false)
+    cond (on_plane E N) (reduced_of k (E -ℤ p.false_easting) (N -ℤ p.false_northing)) (answered_early out_of_limits false)
 
 -- Every point of the plane is this small, which keeps the code within 64 bits.
 pub record SmallPlanePoint (q : PlanePoint) : Type 0 where

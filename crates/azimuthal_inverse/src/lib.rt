@@ -7,14 +7,14 @@ ghost use Rattle.units.specs.Units.{half_turn};
 ghost use Rattle.sine_table.specs.Table.{IsTable};
 ghost use Rattle.latitudes.specs.InnerSizes.{SmallSeries};
 ghost use Rattle.parameters.specs.ParameterSet.{set_refusal};
-ghost use Rattle.constants.specs.Derived.{constantsOf};
+ghost use Rattle.constants.specs.Derived.{constants_of};
 ghost use Rattle.constants.specs.InnerPrepared.{BoundedCentre, Prepared};
 ghost use Rattle.azimuthal_forward.specs.Steps.{H as scale_of};
 ghost use Rattle.sphere_points.specs.Sphere.{G};
 ghost use Rattle.sphere_points.specs.InnerSizes.{SmallPoint, squared_radius};
 ghost use Rattle.azimuthal_inverse.specs.Steps.{at_origin, on_map};
 ghost use Rattle.azimuthal_inverse.specs.Answer.{geodetic_told, inverse_of, inverse_told};
-ghost use Rattle.azimuthal_inverse.specs.InnerStages.{position_of, OfAcceptedSet, answered_early, reducedOf, plane_point_of, SmallPlanePoint, sphere_point_of, answer_of};
+ghost use Rattle.azimuthal_inverse.specs.InnerStages.{position_of, OfAcceptedSet, answered_early, reduced_of, plane_point_of, SmallPlanePoint, sphere_point_of, answer_of};
 
 use azimuthal_forward::{LEAST_NEARNESS, scale, scales};
 use billionths::quotient;
@@ -32,14 +32,14 @@ use units::refusals::{OUT_OF_LIMITS, TOO_FAR};
 use units::{are_within, is_on_plane, wrap};
 
 // Latitude and longitude in mas, or the refusal number alone.
-#[derive(Drop)]
+#[derive(Clone, Copy)]
 pub enum GeodeticAnswer {
     Position { latitude: Geodetic, longitude: i64 },
     Refused(u8),
 }
 
 // The answers for two points.
-#[derive(Drop)]
+#[derive(Clone, Copy)]
 pub struct GeodeticAnswers {
     pub first: GeodeticAnswer,
     pub second: GeodeticAnswer,
@@ -64,7 +64,7 @@ fn is_origin(de: i64, dn: i64) -> bool
 
 // A point of the plane as the steps take it. `refusal` is 3, 4, or 0 for none. Of a refused point and of the
 // false origin X, Y and K are 0, so that the roots may be taken for any point.
-#[derive(Drop)]
+#[derive(Clone, Copy)]
 struct PlanePoint {
     refusal: u8,
     origin: bool,
@@ -89,7 +89,7 @@ fn answered_early(refusal: u8, origin: bool) -> PlanePoint
 // The point dE east and dN north of the false origin.
 fn reduced(k: Constants, de: i64, dn: i64) -> PlanePoint
     requires { OfAcceptedSet k }
-    ensures { result ≡ reducedOf k de dn }
+    ensures { result ≡ reduced_of k de dn }
 {
     if is_origin(de, dn) {
         return answered_early(0, true);
@@ -114,7 +114,7 @@ fn reduced(k: Constants, de: i64, dn: i64) -> PlanePoint
 
 // The point for an easting and a northing, with an accepted set and its constants.
 fn plane_point(p: Parameters, k: Constants, easting: i64, northing: i64) -> PlanePoint
-    requires { (set_refusal p ≡ 0) × (k ≡ constantsOf p) }
+    requires { (set_refusal p ≡ 0) × (k ≡ constants_of p) }
     ensures { result ≡ plane_point_of p k easting northing }
 {
     if !is_on_plane(easting, northing) {

@@ -75,47 +75,47 @@ module _ (side : ℕ) (ok : accepted_side (pos side) ≡ true) where
   some : 0 < side
   some = side_some (pos side) ok
 
-  abbrev top-number : ℤ
-  top-number = pos (top side)
+  abbrev top_number : ℤ
+  top_number = pos (top side)
 
   abbrev edge : ℤ
-  edge = top-number *ℤ pos side
+  edge = top_number *ℤ pos side
 
   edge_is : edge ≡ pos plane_limit
   edge_is = ap pos top_edge
 
-  bottom_is : neg_ℤ top-number *ℤ pos side ≡ neg_ℤ (pos plane_limit)
-  bottom_is = negℤ-*ˡ top-number (pos side) ∙ ap neg_ℤ edge_is
+  bottom_is : neg_ℤ top_number *ℤ pos side ≡ neg_ℤ (pos plane_limit)
+  bottom_is = negℤ-*ˡ top_number (pos side) ∙ ap neg_ℤ edge_is
 
   -- ---- the top cell
 
-  one_centimetre : centimetres side top-number ≡ 1
+  one_centimetre : centimetres side top_number ≡ 1
   one_centimetre =
-      run_inside (has side top-number) plane_limit 1 edge
+      run_inside (has side top_number) plane_limit 1 edge
       (omega (order, eq_parts edge_is, P-neg (pos plane_limit), N-neg (pos plane_limit)))
       (omega (order, eq_parts edge_is, parts-+ edge (pos 1)))
-      (has_below side some top-number)
-      (λ z a b. has_inside side some top-number z (held side some top-number z a (omega (order, some, parts-+ edge (pos 1), parts-+ edge (pos side)))))
+      (has_below side some top_number)
+      (λ z a b. has_inside side some top_number z (held side some top_number z a (omega (order, some, parts-+ edge (pos 1), parts-+ edge (pos side)))))
       (λ z a b. let never : ⊥ = omega (order, eq_parts edge_is, parts-+ edge (pos 1)) in absurd never)
 
   -- 1 cm past the limit is its second centimetre
-  past_in : InCell side top-number (pos (suc plane_limit))
+  past_in : InCell side top_number (pos (suc plane_limit))
   past_in =
-      held side some top-number (pos (suc plane_limit))
+      held side some top_number (pos (suc plane_limit))
       (omega (order, eq_parts edge_is))
       (omega (order, eq_parts edge_is, parts-+ edge (pos side), side_above_1 (pos side) ok))
 
-  not_inside : WhollyInside side top-number → ⊥
+  not_inside : WhollyInside side top_number → ⊥
   not_inside whole = omega (order, (bounds (pos (suc plane_limit)) (whole (pos (suc plane_limit)) past_in)).1)
 
   -- ---- the other cells
 
-  le_up : (k : ℤ) → k ≤ℤ (top-number -ℤ pos 1) → (k +ℤ pos 1) ≤ℤ top-number
-  le_up k h = omega (order, parts-- top-number (pos 1), parts-+ k (pos 1))
+  le_up : (k : ℤ) → k ≤ℤ (top_number -ℤ pos 1) → (k +ℤ pos 1) ≤ℤ top_number
+  le_up k h = omega (order, parts-- top_number (pos 1), parts-+ k (pos 1))
 
   -- a coordinate within the limits lies before the cell after the top one
-  under_next : (z : ℤ) → z ≤ℤ pos plane_limit → z <ℤ ((top-number +ℤ pos 1) *ℤ pos side)
-  under_next z h = omega (order, eq_parts edge_is, lt_parts (first_in side some top-number).before_next)
+  under_next : (z : ℤ) → z ≤ℤ pos plane_limit → z <ℤ ((top_number +ℤ pos 1) *ℤ pos side)
+  under_next z h = omega (order, eq_parts edge_is, lt_parts (first_in side some top_number).before_next)
 
 pub top_cell : TopCell
 top_cell side ok = (one_centimetre side ok, not_inside side ok)

@@ -6,7 +6,7 @@ use Rattle.parameters.specs.declared.Parameters.{Parameters}
 use Rattle.constants.specs.declared.Constants.{Constants}
 use Rattle.parameters.specs.ParameterSet.{set_refusal}
 use Rattle.latitudes.specs.InnerSizes.{SmallSeries}
-use Rattle.constants.specs.Derived.{β0, S0, C0, constantsOf}
+use Rattle.constants.specs.Derived.{β0, S0, C0, constants_of}
 use Rattle.constants.specs.InnerPrepared.{BoundedCentre}
 use Rattle.units.proofs.Spans.{Between}
 use Rattle.parameters.proofs.AcceptedSet.{accepted_fields}
@@ -19,8 +19,8 @@ pub record Sound (k : Constants) : Type 0 where
   pub rd_between : Between k.rd 90_909_091 1_080_000_000
   pub rn_between : Between k.rn 90_909_091 1_080_000_000
 
-pub sound : (p : Parameters) → set_refusal p ≡ 0 → Sound (constantsOf p)
-unfolding constantsOf S0 C0
+pub sound : (p : Parameters) → set_refusal p ≡ 0 → Sound (constants_of p)
+unfolding constants_of S0 C0
 sound p h =
     let ok = accepted_fields p h in
     record {
@@ -31,5 +31,5 @@ sound p h =
     }
 
 -- the same of constants that were handed down
-pub sound_as : (p : Parameters) (k : Constants) → set_refusal p ≡ 0 → k ≡ constantsOf p → Sound k
+pub sound_as : (p : Parameters) (k : Constants) → set_refusal p ≡ 0 → k ≡ constants_of p → Sound k
 sound_as p k h e = subst Sound (sym e) (sound p h)

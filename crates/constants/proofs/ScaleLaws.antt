@@ -26,7 +26,7 @@ use Rattle.parameters.specs.ParameterSet.{polar, accepted_lat0}
 use Rattle.latitudes.proofs.AuthalicLaws.{rounded_size, beta_size}
 use Rattle.latitudes.specs.declared.Geodetic.{Geodetic}
 use Rattle.latitudes.specs.Latitude.{beta, rounded}
-use Rattle.constants.specs.Derived.{J, seriesOf, β0, C0, «V», m, D, Rq, RD, RN}
+use Rattle.constants.specs.Derived.{J, series_of, β0, C0, «V», m, D, Rq, RD, RN}
 use Rattle.constants.proofs.SeriesLaws.{About, about, J-low, J-high, series_small}
 use Rattle.units.proofs.Spans.{Between}
 use Rattle.parameters.proofs.AcceptedSet.{Accepted, oblique_or_polar}
@@ -54,7 +54,7 @@ module _ (φ0 : ℤ) (oblique : nat_abs φ0 ≤ 306_000_000) where
 beta_apart : (e2 : ℤ) (φ0 : Geodetic) → nat_abs e2 ≤ 10_000_000 → nat_abs ((β0 e2 φ0).0 -ℤ φ0.0) ≤ 692_510
 unfolding β0 beta
 beta_apart e2 φ0 small =
-    rw (back φ0.0 (rounded (seriesOf e2) φ0), abs_neg (rounded (seriesOf e2) φ0)) (rounded_size (seriesOf e2) (series_small e2 small) φ0.0)
+    rw (back φ0.0 (rounded (series_of e2) φ0), abs_neg (rounded (series_of e2) φ0)) (rounded_size (series_of e2) (series_small e2 small) φ0.0)
   where
     back : (x y : ℤ) → x -ℤ y -ℤ x ≡ neg_ℤ y
     back x y = ring (x ∷ y ∷ []) (search quote depth 40 fits 20000) tt
@@ -68,7 +68,7 @@ C0-about e2 φ0 small oblique =
 
 pub β0_size : (e2 : ℤ) (φ0 : Geodetic) → nat_abs e2 ≤ 10_000_000 → nat_abs φ0.0 ≤ right_angle → nat_abs (β0 e2 φ0).0 ≤ right_angle
 unfolding β0
-β0_size e2 φ0 small h = beta_size (seriesOf e2) (series_small e2 small) φ0.0 h
+β0_size e2 φ0 small h = beta_size (series_of e2) (series_small e2 small) φ0.0 h
 
 pub C0-size : (e2 : ℤ) (φ0 : Geodetic) → nat_abs (C0 e2 φ0) ≤ unit
 unfolding C0

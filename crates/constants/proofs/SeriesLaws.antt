@@ -17,7 +17,7 @@ use Rattle.integers.proofs.Rounding.{near_bound}
 use Rattle.integers.proofs.Squares.{root_least, root_most}
 use Rattle.units.specs.Units.{unit, U}
 use Rattle.latitudes.specs.InnerSizes.{SmallSeries}
-use Rattle.constants.specs.Derived.{to_mas, e4, e6, W, J, k2, k4, k6, seriesOf}
+use Rattle.constants.specs.Derived.{to_mas, e4, e6, W, J, k2, k4, k6, series_of}
 
 -- a whole number within δ of a, which is at least δ
 pub record About (z : ℤ) (a δ : ℕ) : Type 0 where
@@ -100,8 +100,8 @@ module _ (e2 : ℤ) (small : nat_abs e2 ≤ 10_000_000) where
   unfolding k6 nearest
   k6_size = near_bound (pos 383 *ℤ e6 e2) 45360 (lit< tt) (abs_mul_le (pos 383) (e6 e2) (le_refl 383) e6_size)
 
-  pub series_small : SmallSeries (seriesOf e2)
-  unfolding seriesOf to_mas nearest
+  pub series_small : SmallSeries (series_of e2)
+  unfolding series_of to_mas nearest
   series_small =
       record {
         k2_size = le_trans (near_bound (k2 e2 *ℤ pos 206_264_806) unit (lit< tt) (abs_mul_le (k2 e2) (pos 206_264_806) k2_size (le_refl 206_264_806)))

@@ -43,14 +43,14 @@ module _ (e2 : ℤ) where
   unfoldable pub k6 : ℤ
   k6 = near (pos 383 *ℤ e6) 45360
 
-  unfoldable pub seriesOf : AuthalicSeries
-  seriesOf = coefficients (to_mas k2) (to_mas k4) (to_mas k6)
+  unfoldable pub series_of : AuthalicSeries
+  series_of = coefficients (to_mas k2) (to_mas k4) (to_mas k6)
 
 -- of e2 and φ0
 module _ (e2 : ℤ) (φ0 : Geodetic) where
   -- "S0, C0: sine and cosine of β0."
   unfoldable pub β0 : Authalic
-  β0 = beta (seriesOf e2) φ0
+  β0 = beta (series_of e2) φ0
 
   unfoldable pub S0 : ℤ
   S0 = sine β0.0
@@ -83,10 +83,10 @@ module _ (p : Parameters) where
   RN = near (Rq *ℤ U) (nat_abs (D p.e2 p.lat0))
 
   -- what the steps take
-  unfoldable pub constantsOf : Constants
-  constantsOf =
+  unfoldable pub constants_of : Constants
+  constants_of =
       record {
-        series = seriesOf p.e2;
+        series = series_of p.e2;
         s0 = S0 p.e2 p.lat0;
         c0 = C0 p.e2 p.lat0;
         rd = RD;

@@ -5,7 +5,7 @@ use Rattle.sine_table.specs.Table.{IsTable}
 use Rattle.parameters.specs.declared.Parameters.{Parameters}
 use Rattle.constants.specs.declared.Constants.{Constants}
 use Rattle.parameters.specs.ParameterSet.{set_refusal}
-use Rattle.constants.specs.Derived.{constantsOf}
+use Rattle.constants.specs.Derived.{constants_of}
 
 -- S0 and C0 are a sine and a cosine, so at most 1.
 pub record BoundedCentre (k : Constants) : Type 0 where
@@ -16,4 +16,4 @@ pub record BoundedCentre (k : Constants) : Type 0 where
 pub record Prepared (t : List ℕ) (p : Parameters) (k : Constants) : Type 0 where
   pub table : IsTable t
   pub set_accepted : set_refusal p ≡ 0
-  pub constants : k ≡ constantsOf p
+  pub constants : k ≡ constants_of p

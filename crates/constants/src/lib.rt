@@ -5,7 +5,7 @@ ghost use Rattle.std.specs.Prelude.{◌≡◌, true, ◌≤◌, nat_abs};
 ghost use Rattle.sine_table.specs.Table.{IsTable};
 ghost use Rattle.units.specs.Units.{right_angle};
 ghost use Rattle.parameters.specs.ParameterSet.{accepted_lat0, set_refusal};
-ghost use Rattle.constants.specs.Derived.{to_mas, J, seriesOf, C0, m, D, constantsOf, e4 as e4Of, e6 as e6Of};
+ghost use Rattle.constants.specs.Derived.{to_mas, J, series_of, C0, m, D, constants_of, e4 as e4Of, e6 as e6Of};
 
 use billionths::{product, quotient, unit_root};
 use integers::near;
@@ -15,7 +15,7 @@ use sine_table::Table;
 use units::UNIT;
 
 // In document 01's names: S0, C0 in billionths; RD, RN in cm.
-#[derive(Drop)]
+#[derive(Clone, Copy)]
 pub struct Constants {
     pub series: AuthalicSeries,
     pub s0: i64,
@@ -43,7 +43,7 @@ fn in_mas(k: i64) -> i64
 // The coefficients of the authalic latitude's series.
 fn series(e2: i64, e4: i64, e6: i64) -> AuthalicSeries
     requires { (nat_abs e2 ≤ 10_000_000) × (e4 ≡ e4Of e2) × (e6 ≡ e6Of e2) }
-    ensures { result ≡ seriesOf e2 }
+    ensures { result ≡ series_of e2 }
 {
     let k2 = near(e2, 3) + near(31 * e4, 180) + near(59 * e6, 560);
     let k4 = near(17 * e4, 360) + near(61 * e6, 1260);
@@ -80,7 +80,7 @@ fn axis_ratio(t: &Table, e2: i64, lat0: Geodetic, j: i64, c0: i64) -> i64
 // The constants of an accepted set.
 pub fn constants_of(t: &Table, p: Parameters) -> Constants
     requires { IsTable t.now × (set_refusal p ≡ 0) }
-    ensures { result ≡ constantsOf p }
+    ensures { result ≡ constants_of p }
 {
     let e2 = p.e2;
     let lat0 = p.lat0;

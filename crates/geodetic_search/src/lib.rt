@@ -82,7 +82,7 @@ const FINE: i64 = 64;
 const FINE_DIVISOR: u64 = 64_000_000_000;
 
 // The coefficients of that series.
-#[derive(Drop)]
+#[derive(Clone, Copy)]
 struct ReversedSeries {
     k2: i64,
     k4: i64,

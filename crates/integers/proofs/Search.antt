@@ -10,7 +10,7 @@ use Prim.Native.Nat.{ℕ, ◌+◌, ◌-◌, ◌*◌, ◌/◌, ◌<◌, ◌≤◌
 use native.Mathlib.Nat.{le_refl, le_trans}
 use native.Mathlib.Omega.{arith}
 use lib.Dec.{leb}
-use borrow.Author.Tests.{leb-true, leb-false, le-leb, lt-leb, not-true, not-false}
+use borrow.Author.Tests.{leb-true, leb-false, le-leb, lt-leb}
 use Rattle.proof_kit.proofs.Order.{le_or_lt}
 use Rattle.integers.specs.Greatest.{greatest}
 use Rattle.integers.specs.InnerSearch.{bracketed, Span, About}
@@ -47,18 +47,18 @@ module _
   low_side : {b : Bool} → r ≡ b → leb low (greatest test n) ≡ b
   low_side e = sym (passes_is (threshold asked.0) low asked.1) ∙ sym told ∙ e
 
-  pub low_fails : not r ≡ true → false ≡ bracketed test n low high
+  pub low_fails : r ≡ false → false ≡ bracketed test n low high
   unfolding bracketed
-  low_fails e = rw (low_side (not-true r e))
+  low_fails e = rw (low_side e)
 
-  pub top_reached : not r ≡ false → high ≡ n → true ≡ bracketed test n low high
+  pub top_reached : r ≡ true → high ≡ n → true ≡ bracketed test n low high
   unfolding bracketed
-  top_reached e f = rw (low_side (not-false r e), f, le-leb (greatest test n) n (greatest_le test n))
+  top_reached e f = rw (low_side e, f, le-leb (greatest test n) n (greatest_le test n))
 
-  pub next_tested : not r ≡ false → (high ≡ n → ⊥) → {s : Bool} → s ≡ test (high + 1) → not s ≡ bracketed test n low high
+  pub next_tested : r ≡ true → (high ≡ n → ⊥) → {s : Bool} → s ≡ test (high + 1) → not s ≡ bracketed test n low high
   unfolding bracketed
   next_tested e differ next =
-      rw (low_side (not-false r e), next, passes_is (threshold asked.0) (high + 1) (omega (arith, asked.2)))
+      rw (low_side e, next, passes_is (threshold asked.0) (high + 1) (omega (arith, asked.2)))
       (at (leb (high + 1) (greatest test n)) refl)
     where
       at : (b : Bool) → leb (high + 1) (greatest test n) ≡ b → not b ≡ leb (greatest test n) high

@@ -15,15 +15,15 @@ use trig::{SineCosine, cosine, sine, sine_by_line, sine_by_minute, sine_cosine};
 use units::{UNIT, UNIT_DIVISOR};
 
 // The latitude on the ellipsoid.
-#[derive(Drop)]
+#[derive(Clone, Copy)]
 pub struct Geodetic(pub i64);
 
 // The latitude on the sphere of equal area. Only `to_authalic` makes one from a geodetic latitude.
-#[derive(Drop)]
+#[derive(Clone, Copy)]
 pub struct Authalic(pub i64);
 
 // The coefficients k2, k4, k6 of the authalic latitude's series, in mas.
-#[derive(Drop)]
+#[derive(Clone, Copy)]
 pub struct AuthalicSeries {
     pub k2: i64,
     pub k4: i64,

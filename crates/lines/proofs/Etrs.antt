@@ -7,7 +7,7 @@ use Rattle.parameters.specs.declared.Parameters.{Parameters}
 use Rattle.parameters.specs.ParameterSet.{set_refusal, etrs_laea}
 use Rattle.parameters.proofs.Fields.{etrs_accepted}
 use Rattle.constants.specs.declared.Constants.{Constants}
-use Rattle.constants.specs.Derived.{constantsOf}
+use Rattle.constants.specs.Derived.{constants_of}
 use Rattle.constants.specs.InnerPrepared.{Prepared}
 
 -- of the set that `Parameters::etrs_laea` answers
@@ -15,5 +15,5 @@ module _ {p : Parameters} (is : p ≡ etrs_laea) where
   pub set_accepted : set_refusal p ≡ 0
   set_accepted = ap set_refusal is ∙ etrs_accepted
 
-  pub etrs_prepared : {t : List ℕ} {k : Constants} → IsTable t → k ≡ constantsOf p → Prepared t etrs_laea k
-  etrs_prepared table e = record { table = table; set_accepted = etrs_accepted; constants = e ∙ ap constantsOf is }
+  pub etrs_prepared : {t : List ℕ} {k : Constants} → IsTable t → k ≡ constants_of p → Prepared t etrs_laea k
+  etrs_prepared table e = record { table = table; set_accepted = etrs_accepted; constants = e ∙ ap constants_of is }

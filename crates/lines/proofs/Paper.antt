@@ -15,10 +15,10 @@ use Rattle.trig.specs.Sine.{between, first_quarter, first_half, one_turn, sine, 
 use Rattle.latitudes.specs.declared.Geodetic.{Geodetic}
 use Rattle.latitudes.specs.Latitude.{terms, rounded, beta}
 use Rattle.parameters.specs.ParameterSet.{etrs_laea}
-use Rattle.constants.specs.Derived.{to_mas, e4, e6, k2, k4, k6, seriesOf, β0, S0, C0, constantsOf}
+use Rattle.constants.specs.Derived.{to_mas, e4, e6, k2, k4, k6, series_of, β0, S0, C0, constants_of}
 use Rattle.azimuthal_forward.specs.declared.PlaneAnswer.TheVariants.{Plane}
 use Rattle.azimuthal_forward.specs.Steps.{H, b, c, u, v, w, G, dE, dN, near_enough}
-use Rattle.azimuthal_forward.specs.Answer.{on_globe, nearness, eastingOf, northingOf, forward_of}
+use Rattle.azimuthal_forward.specs.Answer.{on_globe, nearness, easting_of, northing_of, forward_of}
 use Rattle.azimuthal_forward.proofs.ForwardLaws.{H-least}
 use Rattle.azimuthal_forward.proofs.AnswerLaws.{forward_off_globe, forward_too_far, forward_plane}
 use Rattle.azimuthal_inverse.specs.declared.GeodeticAnswer.TheVariants.{Position}
@@ -54,7 +54,7 @@ steps :
     × (near_enough (nearness etrs_laea opposite (neg_ℤ (pos 612_000_000))) ≡ false)
     × (u k φ0 (Δ (pos 36_000_000)) ≡ pos 0)
     × (w k φ0 (Δ (pos 36_000_000)) ≡ pos 0)
-unfolding near_enough nearness G b c u v w constantsOf S0 C0 β0 seriesOf to_mas e4 e6 k2 k4 k6 beta rounded terms
+unfolding near_enough nearness G b c u v w constants_of S0 C0 β0 series_of to_mas e4 e6 k2 k4 k6 beta rounded terms
     sine cosine one_turn first_half first_quarter between entry nearest near
 steps = (refl, refl, refl, refl)
 
@@ -64,7 +64,7 @@ nothing r x g e close =
     ap (λ (z : ℤ). near z (H g)) (ap (λ (y : ℤ). r *ℤ y) e ∙ *ℤ-zero r) ∙ near_zero (H g) (le_trans (lit< tt) (H-least g close))
 
 centre_answer : forward_of etrs_laea φ0 (pos 36_000_000) ≡ Plane (pos 432_100_000) (pos 321_000_000)
-unfolding eastingOf northingOf dE dN
+unfolding easting_of northing_of dE dN
 centre_answer =
     let close = G-least φ0 (pos 36_000_000) steps.0 in
     let g = G k φ0 (Δ (pos 36_000_000)) in

@@ -20,16 +20,16 @@ use Rattle.latitudes.specs.declared.Geodetic.{Geodetic}
 use Rattle.geodetic_search.proofs.GeodeticLaws.{geodetic_size}
 use Rattle.parameters.specs.ParameterSet.{etrs_laea}
 use Rattle.constants.specs.declared.Constants.{Constants}
-use Rattle.constants.specs.Derived.{constantsOf}
+use Rattle.constants.specs.Derived.{constants_of}
 use Rattle.constants.proofs.ConstantsLaws.{Sound, sound}
 use Rattle.azimuthal_forward.specs.Steps.{H, u, w, G, dE, dN, near_enough}
-use Rattle.azimuthal_forward.specs.Answer.{on_globe, nearness, eastingOf, northingOf, forward_of}
+use Rattle.azimuthal_forward.specs.Answer.{on_globe, nearness, easting_of, northing_of, forward_of}
 use Rattle.azimuthal_forward.proofs.ForwardLaws.{u_size, w_size, H-least}
 use Rattle.azimuthal_forward.proofs.AnswerLaws.{forward_off_globe, forward_too_far, forward_plane}
 use Rattle.sphere_points.specs.declared.SpherePoint.{SpherePoint}
 use Rattle.azimuthal_inverse.specs.Steps.{at_origin, on_map, K, found}
 use Rattle.sphere_points.specs.Sphere.{latitude_of, longitude_of, G as inverseG}
-use Rattle.azimuthal_inverse.specs.Answer.{answerFrom, inverse_of}
+use Rattle.azimuthal_inverse.specs.Answer.{answer_from, inverse_of}
 use Rattle.sphere_points.proofs.AngleLaws.{longitude_size}
 use Rattle.azimuthal_inverse.proofs.AnswerLaws.{from_origin, from_off_map, from_too_far, from_position, inverse_off_plane, inverse_on_plane}
 use Rattle.requests.specs.declared.Request.{Request}
@@ -49,7 +49,7 @@ tested false passed failed = failed refl
 -- ---- forward
 
 abbrev pub k : Constants
-k = constantsOf etrs_laea
+k = constants_of etrs_laea
 
 -- "Δ = lon − lon0"
 abbrev pub Δ : ℤ → ℤ
@@ -69,15 +69,15 @@ module _ (φ : Geodetic) (lon : ℤ) (close : near_enough (nearness etrs_laea φ
   unfolding near_enough nearness
   G-least = le_z_true (pos 20_000_000) (G k φ (Δ lon)) close
 
-  easting_size : nat_abs (eastingOf etrs_laea φ lon) < 10 ^ 11
-  unfolding eastingOf dE
+  easting_size : nat_abs (easting_of etrs_laea φ lon) < 10 ^ 11
+  unfolding easting_of dE
   easting_size =
       let u-most = le_trans (u_size k φ (Δ lon)) (lit≤ tt) in
       let size = quotient_size k.rd (u k φ (Δ lon)) (G k φ (Δ lon)) k_sound.rd_between.most u-most G-least in
       omega (arith, abs_add_le etrs_laea.false_easting (dE k φ (Δ lon)) (le_refl 432_100_000) size)
 
-  northing_size : nat_abs (northingOf etrs_laea φ lon) < 10 ^ 11
-  unfolding northingOf dN
+  northing_size : nat_abs (northing_of etrs_laea φ lon) < 10 ^ 11
+  unfolding northing_of dN
   northing_size =
       let w-most = w_size k k_sound.centre φ (Δ lon) in
       let size = quotient_size k.rn (w k φ (Δ lon)) (G k φ (Δ lon)) k_sound.rn_between.most w-most G-least in
@@ -100,7 +100,7 @@ wrapped_size s =
     let range = wrapped_range lon (omega (arith, abs_add_le etrs_laea.lon0 (longitude_of s) (le_refl 36_000_000) (longitude_size s))) in
     abs_between (wrapped lon) (<ℤ-≤ℤ range.0) range.1
 
-from_small : (c : Constants) (x y : ℤ) → Small (position_reply (answerFrom etrs_laea c x y))
+from_small : (c : Constants) (x y : ℤ) → Small (position_reply (answer_from etrs_laea c x y))
 from_small c x y =
     let s = found c x y in
     tested (at_origin x y)

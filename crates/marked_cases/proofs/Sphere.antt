@@ -23,9 +23,9 @@ use Rattle.azimuthal_forward.specs.declared.PlaneAnswer.TheVariants.{Plane}
 use Rattle.units.specs.Spans.{within, same}
 use Rattle.parameters.specs.ParameterSet.{polar, accepted_a, accepted_e2, accepted_lat0, accepted_lon0, accepted_false, set_refusal}
 use Rattle.latitudes.specs.Latitude.{coefficients, terms, rounded, beta}
-use Rattle.constants.specs.Derived.{to_mas, e4, e6, W, J, k2, k4, k6, seriesOf, β0, S0, C0, «V», m, D, Rq, RD, RN, constantsOf}
+use Rattle.constants.specs.Derived.{to_mas, e4, e6, W, J, k2, k4, k6, series_of, β0, S0, C0, «V», m, D, Rq, RD, RN, constants_of}
 use Rattle.azimuthal_forward.specs.Steps.{H, b, c, u, v, w, G, dE, dN, near_enough}
-use Rattle.azimuthal_forward.specs.Answer.{on_globe, nearness, eastingOf, northingOf, forward_of}
+use Rattle.azimuthal_forward.specs.Answer.{on_globe, nearness, easting_of, northing_of, forward_of}
 use Rattle.azimuthal_forward.proofs.AnswerLaws.{forward_plane}
 use Rattle.marked_cases.specs.CaseTheorems.{sphere}
 
@@ -50,12 +50,12 @@ sphere_accepted : set_refusal sphere ≡ 0
 unfolding set_refusal accepted_a accepted_e2 accepted_lat0 polar same accepted_lon0 accepted_false within
 sphere_accepted = refl
 
-sphere_series : seriesOf (pos 0) ≡ coefficients (pos 0) (pos 0) (pos 0)
-unfolding seriesOf k2 k4 k6 e4 e6 to_mas near nearest
+sphere_series : series_of (pos 0) ≡ coefficients (pos 0) (pos 0) (pos 0)
+unfolding series_of k2 k4 k6 e4 e6 to_mas near nearest
 sphere_series = refl
 
 -- on the sphere β is φ
-sphere_beta : (φ : ℤ) → (beta (seriesOf (pos 0)) (record { 0 = φ })).0 ≡ φ
+sphere_beta : (φ : ℤ) → (beta (series_of (pos 0)) (record { 0 = φ })).0 ≡ φ
 unfolding beta rounded terms
 sphere_beta φ =
     ap (λ (k : AuthalicSeries). φ -ℤ near (k.k2 *ℤ sine (pos 2 *ℤ φ) -ℤ k.k4 *ℤ sine (pos 4 *ℤ φ) +ℤ k.k6 *ℤ sine (pos 6 *ℤ φ)) unit) sphere_series
@@ -109,21 +109,21 @@ sphere_RN =
 -- ---- the steps for φ = 0 and Δ = 90°: u = U, v = 0, w = 0, G = U and H = U/√2
 
 k : Constants
-k = constantsOf sphere
+k = constants_of sphere
 
 fields : (k.s0 ≡ pos 0) × (k.c0 ≡ U) × (k.rd ≡ pos 600_000_000) × (k.rn ≡ pos 600_000_000)
-unfolding k constantsOf
+unfolding k constants_of
 fields = (sphere_S0, sphere_C0, sphere_RD, sphere_RN)
 
 quarter : ℤ
 quarter = pos right_angle
 
 quarter_b : b k equator quarter ≡ pos 0
-unfolding b k constantsOf
+unfolding b k constants_of
 quarter_b = ap sine (sphere_beta (pos 0)) ∙ sine_zero
 
 quarter_c : c k equator quarter ≡ U
-unfolding c k constantsOf
+unfolding c k constants_of
 quarter_c = ap cosine (sphere_beta (pos 0)) ∙ cosine_zero
 
 quarter_u : u k equator quarter ≡ U
@@ -165,7 +165,7 @@ unfolding near_enough nearness k quarter
 quarter_near = ap (le_z (pos 20_000_000)) quarter_G
 
 pub sphere_quarter : forward_of sphere equator (pos right_angle) ≡ Plane (pos 848_528_138) (pos 0)
-unfolding k quarter eastingOf northingOf
+unfolding k quarter easting_of northing_of
 sphere_quarter =
     forward_plane sphere equator quarter sphere_accepted quarter_on_globe quarter_near
     ∙ ap₂ (λ (x y : ℤ). Plane (pos 0 +ℤ x) (pos 0 +ℤ y)) quarter_d_e quarter_d_n

@@ -24,7 +24,7 @@ pub data Case : Type 0 where
 abbrev pub All : List Case → Type 0
 All [] = Unit {0}
 All ((a is b) ∷ cases) = (a ≡ b) × All cases
-All ((a Goes-to b) ∷ cases) = (a ≡ b) × All cases
+All ((a goes_to b) ∷ cases) = (a ≡ b) × All cases
 
 -- "the sphere a = 600,000,000 with centre (0, 0) and no false origin"
 abbrev pub sphere : Parameters
@@ -45,7 +45,7 @@ P =
     ∷ (whole_of degree (fin false 1 (neg_ℤ (pos 8))) is pos 14_063)
     ∷ (whole_of degree (fin true 1 (neg_ℤ (pos 8))) is neg_ℤ (pos 14_063))
     ∷ (whole_of metre (fin false 1 (neg_ℤ (pos 3))) is pos 13)
-    ∷ (forward_of sphere (latitude (pos 0)) (pos right_angle) Goes-to Plane (pos 848_528_138) (pos 0))
+    ∷ (forward_of sphere (latitude (pos 0)) (pos right_angle) goes_to Plane (pos 848_528_138) (pos 0))
     ∷ []
 
 -- "Proved together as a single table, marked P"

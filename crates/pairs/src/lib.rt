@@ -10,35 +10,35 @@ use floats::{cm_to_metres, is_finite, is_latitude, is_longitude, is_plane, mas_t
 use units::both;
 
 // In degrees.
-#[derive(Drop)]
+#[derive(Clone, Copy)]
 pub struct GeodeticPair {
     pub latitude: f64,
     pub longitude: f64,
 }
 
 // In metres, by place: easting stands first today.
-#[derive(Drop)]
+#[derive(Clone, Copy)]
 pub struct PlanePair {
     pub first: f64,
     pub second: f64,
 }
 
 // A pair, or the refusal number alone.
-#[derive(Drop)]
+#[derive(Clone, Copy)]
 pub enum PlanePairAnswer {
     Metres(PlanePair),
     Refused(u8),
 }
 
 // A pair, or the refusal number alone.
-#[derive(Drop)]
+#[derive(Clone, Copy)]
 pub enum GeodeticPairAnswer {
     Degrees(GeodeticPair),
     Refused(u8),
 }
 
 // An answer as a list holds it: its two values and mark 0, or 0.0, 0.0 and its refusal number.
-#[derive(Drop)]
+#[derive(Clone, Copy)]
 pub struct Row {
     pub mark: u8,
     pub first: f64,

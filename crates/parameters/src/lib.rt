@@ -63,7 +63,7 @@ fn is_lon0(lon0: i64) -> bool
 }
 
 // Every bit pattern is a value of every field; `refusal` says whether the set is accepted.
-#[derive(Drop)]
+#[derive(Clone, Copy)]
 pub struct Parameters {
     // semi-major axis in cm
     pub a: i64,

@@ -10,15 +10,15 @@ use Rattle.point_lists.specs.Lists.{list_answer, ListCall}
 use Rattle.judging.specs.declared.doubles.Digest.{Digest}
 use Rattle.judging.specs.InnerDoubles.{is_told, digest_of, same_digest}
 use Rattle.point_vectors.specs.declared.list_rows.Outcome.{Outcome}
-use Rattle.point_vectors.specs.InnerLists.{filled, marks_of, steps_of, refusal_of, outcomeOf, untouched_digest, is_counted, is_refused}
+use Rattle.point_vectors.specs.InnerLists.{filled, marks_of, steps_of, refusal_of, outcome_of, untouched_digest, is_counted, is_refused}
 
 module _ (p : Parameters) (forward : Bool) (a b c d e : ℕ) (x y : Float) {leading trailing : List Float} {marks : List ℕ} {answer : ListAnswer}
     {digest : Digest} where
   left :
       ListCall p (row_of forward p) (take a (steps_of x)) (take b (steps_of y)) (take c filled) leading (take d filled) trailing (take e marks_of) marks answer →
       digest ≡ digest_of (leading ++ drop c filled) (trailing ++ drop d filled) (marks ++ drop e marks_of) →
-      ◌≡◌ {A = Outcome} (record { answer = answer; digest = digest }) (outcomeOf p forward a b c d e x y)
-  unfolding outcomeOf
+      ◌≡◌ {A = Outcome} (record { answer = answer; digest = digest }) (outcome_of p forward a b c d e x y)
+  unfolding outcome_of
   left call is =
       ap₂ (λ (r : ListAnswer) (s : Digest). record { answer = r; digest = s })
       (call.answer_is ∙ ap (λ (m : List ℕ). list_answer (refusal_of p forward a b c d e x y) (zeros m)) call.marks_are)
@@ -34,7 +34,7 @@ module _ (p : Parameters) (forward : Bool) (a b c d e : ℕ) (x y : Float) {lead
       filled-marks ≡ marks_of →
       ListCall p (row_of forward p) (take a xs) (take b ys) (take c first) leading (take d second) trailing (take e filled-marks) marks answer →
       digest ≡ digest_of (leading ++ drop c first) (trailing ++ drop d second) (marks ++ drop e filled-marks) →
-      ◌≡◌ {A = Outcome} (record { answer = answer; digest = digest }) (outcomeOf p forward a b c d e x y)
+      ◌≡◌ {A = Outcome} (record { answer = answer; digest = digest }) (outcome_of p forward a b c d e x y)
   outcome_is f g h i j call is = left (rw (f, g, h, i, j) at call) (rw (h, i, j) at is)
 
 -- ---- a row's verdict from what its calls gave

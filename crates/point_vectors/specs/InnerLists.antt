@@ -46,17 +46,17 @@ module _ (p : Parameters) (forward : Bool) (a b c d e : ℕ) (x y : Float) where
   refusal_of = list_refusal p (take a (steps_of x)) (take b (steps_of y)) (take c filled) (take d filled) (take e marks_of)
 
   -- the marks that the call left
-  abbrev pub marksLeft : List ℕ
-  marksLeft = written refusal_of (marks points_of) (take e marks_of)
+  abbrev pub marks_left : List ℕ
+  marks_left = written refusal_of (marks points_of) (take e marks_of)
 
   -- its answer, and the digest of all of the outputs, past what was lent too
-  unfoldable pub outcomeOf : Outcome
-  outcomeOf =
+  unfoldable pub outcome_of : Outcome
+  outcome_of =
       record {
-        answer = list_answer refusal_of (zeros marksLeft);
+        answer = list_answer refusal_of (zeros marks_left);
         digest =
             digest_of (written refusal_of (first_values points_of) (take c filled) ++ drop c filled)
-            (written refusal_of (second_values points_of) (take d filled) ++ drop d filled) (marksLeft ++ drop e marks_of);
+            (written refusal_of (second_values points_of) (take d filled) ++ drop d filled) (marks_left ++ drop e marks_of);
       }
 
 unfoldable pub untouched_digest : Digest

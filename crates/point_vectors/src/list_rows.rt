@@ -6,7 +6,7 @@ ghost use Rattle.point_lists.specs.Lists.{ListCall};
 ghost use Rattle.pairs.specs.Pairs.{zero_float};
 ghost use Rattle.parameters.specs.ParameterSet.{etrs_laea};
 ghost use Rattle.judging.specs.InnerDoubles.{is_told};
-ghost use Rattle.point_vectors.specs.InnerLists.{room, numbers_of, marks_of, steps_of, outcomeOf, untouched_digest, is_counted, is_refused};
+ghost use Rattle.point_vectors.specs.InnerLists.{room, numbers_of, marks_of, steps_of, outcome_of, untouched_digest, is_counted, is_refused};
 
 use crate::names::name;
 use judging::doubles::{Digest, are_same, digest_of, is_told};
@@ -94,7 +94,7 @@ fn call(
     y_step: f64,
 ) -> Outcome
     requires { (a ≤ room) × (b ≤ room) × (c ≤ room) × (d ≤ room) × (e ≤ room) }
-    ensures { result ≡ outcomeOf p forward a b c d e x_step y_step }
+    ensures { result ≡ outcome_of p forward a b c d e x_step y_step }
 {
     let xs = steps(x_step);
     let ys = steps(y_step);
@@ -172,7 +172,7 @@ pub(crate) fn list_row(
     right: Digest,
 ) -> bool
     requires { n ≤ room }
-    ensures { result ≡ is_counted (outcomeOf etrs_laea forward n n n n n x_step y_step) n right }
+    ensures { result ≡ is_counted (outcome_of etrs_laea forward n n n n n x_step y_step) n right }
 {
     let p = Parameters::etrs_laea();
     let found = call(p, forward, n, n, n, n, n, x_step, y_step);
@@ -199,7 +199,7 @@ pub(crate) fn list_refused(
     number: u8,
 ) -> bool
     requires { (a ≤ room) × (b ≤ room) × (c ≤ room) × (d ≤ room) × (e ≤ room) }
-    ensures { result ≡ is_refused (outcomeOf p forward a b c d e zero_float zero_float) number }
+    ensures { result ≡ is_refused (outcome_of p forward a b c d e zero_float zero_float) number }
 {
     let found = call(p, forward, a, b, c, d, e, 0.0, 0.0);
     let answer = found.answer;

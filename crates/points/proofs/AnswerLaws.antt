@@ -17,9 +17,9 @@ use Rattle.latitudes.specs.declared.Geodetic.{Geodetic}
 use Rattle.parameters.specs.declared.Parameters.{Parameters}
 use Rattle.parameters.specs.ParameterSet.{set_refusal}
 use Rattle.azimuthal_forward.specs.declared.PlaneAnswer.TheVariants.{Plane, Refused as PlaneRefused}
-use Rattle.azimuthal_forward.specs.Answer.{on_globe, forwardFar, forwardRefusal, eastingOf, northingOf, forward_of}
+use Rattle.azimuthal_forward.specs.Answer.{on_globe, forward_far, forward_refusal, easting_of, northing_of, forward_of}
 use Rattle.azimuthal_inverse.specs.declared.GeodeticAnswer.TheVariants.{Position, Refused as GeodeticRefused}
-use Rattle.azimuthal_inverse.specs.Answer.{inverseFar, inverseRefusal, inverseLatitude, inverseLongitude, inverse_of}
+use Rattle.azimuthal_inverse.specs.Answer.{inverse_far, inverse_refusal, inverse_latitude, inverse_longitude, inverse_of}
 use Rattle.pairs.specs.declared.GeodeticPair.{GeodeticPair}
 use Rattle.pairs.specs.declared.PlanePair.{PlanePair}
 use Rattle.pairs.specs.declared.PlanePairAnswer.{PlanePairAnswer}
@@ -29,8 +29,8 @@ use Rattle.pairs.specs.declared.GeodeticPairAnswer.TheVariants.{Degrees, Refused
 use Rattle.pairs.specs.Pairs.{latitude_mas, longitude_mas, easting_cm, northing_cm, plane_row, geodetic_row, in_metres, in_degrees}
 use Rattle.pairs.specs.Pairs.{are_finite, within_globe, within_plane}
 use Rattle.points.specs.Points.{pair_refusal}
-use Rattle.points.specs.Points.{forwardPairRefusal, forwardPair, forward_degrees, forward_row}
-use Rattle.points.specs.Points.{inversePairRefusal, inversePair, inverse_metres, inverse_row}
+use Rattle.points.specs.Points.{forward_pair_refusal, forward_pair, forward_degrees, forward_row}
+use Rattle.points.specs.Points.{inverse_pair_refusal, inverse_pair, inverse_metres, inverse_row}
 
 -- ---- the chain, for an answer of either kind: its two constructors and what its tests say
 
@@ -43,14 +43,14 @@ record Chain (A : Type 0) : Type 0 where
   far : ℕ
 
 module _ {A : Type 0} (k : Chain A) where
-  abbrev after-set : ℕ
-  after-set = unless k.finite not_finite (unless k.inside out_of_limits k.far)
+  abbrev after_set : ℕ
+  after_set = unless k.finite not_finite (unless k.inside out_of_limits k.far)
 
   abbrev decided : A
-  decided = answered k.refuse (first_refusal k.set after-set) k.given
+  decided = answered k.refuse (first_refusal k.set after_set) k.given
 
   by_set : (n : ℕ) → (n ≡ 0 → ⊥) → k.set ≡ n → decided ≡ k.refuse n
-  by_set = set_refused k.refuse k.given k.set after-set
+  by_set = set_refused k.refuse k.given k.set after_set
 
   -- with an accepted set
   module _ (ok : k.set ≡ 0) where
@@ -72,24 +72,24 @@ module _ (p : Parameters) (at : GeodeticPair) where
   abbrev lon : ℤ
   lon = longitude_mas at
 
-  abbrev forward-chain : Chain PlanePairAnswer
-  forward-chain =
+  abbrev forward_chain : Chain PlanePairAnswer
+  forward_chain =
       record {
         refuse = Refused;
-        given = Metres (forwardPair p at);
+        given = Metres (forward_pair p at);
         set = set_refusal p;
         finite = are_finite at.latitude at.longitude;
         inside = within_globe at;
-        far = forwardFar p φ lon;
+        far = forward_far p φ lon;
       }
 
   pub forward_tells : plane_row (forward_degrees p at) ≡ forward_row p at
   unfolding forward_degrees forward_row
-  forward_tells = answer_tells plane_row Refused (forwardPairRefusal p at) (Metres (forwardPair p at))
+  forward_tells = answer_tells plane_row Refused (forward_pair_refusal p at) (Metres (forward_pair p at))
 
   pub forward_set_refused : (n : ℕ) → (n ≡ 0 → ⊥) → set_refusal p ≡ n → forward_degrees p at ≡ Refused n
-  unfolding forward_degrees forwardPairRefusal pair_refusal
-  forward_set_refused = by_set forward-chain
+  unfolding forward_degrees forward_pair_refusal pair_refusal
+  forward_set_refused = by_set forward_chain
 
   -- a pair within the limits rounds to a position on the globe
   pub rounded_on_globe : within_globe at ≡ true → on_globe φ lon ≡ true
@@ -101,19 +101,19 @@ module _ (p : Parameters) (at : GeodeticPair) where
   -- with an accepted set
   module _ (ok : set_refusal p ≡ 0) where
     pub forward_not_finite : are_finite at.latitude at.longitude ≡ false → forward_degrees p at ≡ Refused not_finite
-    unfolding forward_degrees forwardPairRefusal pair_refusal
-    forward_not_finite = by_not_finite forward-chain ok
+    unfolding forward_degrees forward_pair_refusal pair_refusal
+    forward_not_finite = by_not_finite forward_chain ok
 
     module _ (finite : are_finite at.latitude at.longitude ≡ true) where
       pub forward_beyond : within_globe at ≡ false → forward_degrees p at ≡ Refused out_of_limits
-      unfolding forward_degrees forwardPairRefusal pair_refusal
-      forward_beyond = by_beyond forward-chain ok finite
+      unfolding forward_degrees forward_pair_refusal pair_refusal
+      forward_beyond = by_beyond forward_chain ok finite
 
       pub forward_converted : within_globe at ≡ true → forward_degrees p at ≡ in_metres (forward_of p φ lon)
-      unfolding forward_degrees forwardPairRefusal pair_refusal forwardPair forward_of forwardRefusal
+      unfolding forward_degrees forward_pair_refusal pair_refusal forward_pair forward_of forward_refusal
       forward_converted e =
-          by_far forward-chain ok finite e
-          ∙ sym (rw (ok, rounded_on_globe e) (answer_tells in_metres PlaneRefused (forwardFar p φ lon) (Plane (eastingOf p φ lon) (northingOf p φ lon))))
+          by_far forward_chain ok finite e
+          ∙ sym (rw (ok, rounded_on_globe e) (answer_tells in_metres PlaneRefused (forward_far p φ lon) (Plane (easting_of p φ lon) (northing_of p φ lon))))
 
 -- ---- inverse
 
@@ -124,24 +124,24 @@ module _ (p : Parameters) (at : PlanePair) where
   abbrev N : ℤ
   N = northing_cm at
 
-  abbrev inverse-chain : Chain GeodeticPairAnswer
-  inverse-chain =
+  abbrev inverse_chain : Chain GeodeticPairAnswer
+  inverse_chain =
       record {
         refuse = NotFound;
-        given = Degrees (inversePair p at);
+        given = Degrees (inverse_pair p at);
         set = set_refusal p;
         finite = are_finite at.first at.second;
         inside = within_plane at;
-        far = inverseFar p E N;
+        far = inverse_far p E N;
       }
 
   pub inverse_tells : geodetic_row (inverse_metres p at) ≡ inverse_row p at
   unfolding inverse_metres inverse_row
-  inverse_tells = answer_tells geodetic_row NotFound (inversePairRefusal p at) (Degrees (inversePair p at))
+  inverse_tells = answer_tells geodetic_row NotFound (inverse_pair_refusal p at) (Degrees (inverse_pair p at))
 
   pub inverse_set_refused : (n : ℕ) → (n ≡ 0 → ⊥) → set_refusal p ≡ n → inverse_metres p at ≡ NotFound n
-  unfolding inverse_metres inversePairRefusal pair_refusal
-  inverse_set_refused = by_set inverse-chain
+  unfolding inverse_metres inverse_pair_refusal pair_refusal
+  inverse_set_refused = by_set inverse_chain
 
   -- a pair within the limits rounds to a position on the plane
   pub rounded_on_plane : within_plane at ≡ true → on_plane E N ≡ true
@@ -153,17 +153,17 @@ module _ (p : Parameters) (at : PlanePair) where
   -- with an accepted set
   module _ (ok : set_refusal p ≡ 0) where
     pub inverse_not_finite : are_finite at.first at.second ≡ false → inverse_metres p at ≡ NotFound not_finite
-    unfolding inverse_metres inversePairRefusal pair_refusal
-    inverse_not_finite = by_not_finite inverse-chain ok
+    unfolding inverse_metres inverse_pair_refusal pair_refusal
+    inverse_not_finite = by_not_finite inverse_chain ok
 
     module _ (finite : are_finite at.first at.second ≡ true) where
       pub inverse_beyond : within_plane at ≡ false → inverse_metres p at ≡ NotFound out_of_limits
-      unfolding inverse_metres inversePairRefusal pair_refusal
-      inverse_beyond = by_beyond inverse-chain ok finite
+      unfolding inverse_metres inverse_pair_refusal pair_refusal
+      inverse_beyond = by_beyond inverse_chain ok finite
 
       pub inverse_converted : within_plane at ≡ true → inverse_metres p at ≡ in_degrees (inverse_of p E N)
-      unfolding inverse_metres inversePairRefusal pair_refusal inversePair inverse_of inverseRefusal
+      unfolding inverse_metres inverse_pair_refusal pair_refusal inverse_pair inverse_of inverse_refusal
       inverse_converted e =
-          by_far inverse-chain ok finite e
+          by_far inverse_chain ok finite e
           ∙ sym (rw (ok, rounded_on_plane e)
-          (answer_tells in_degrees GeodeticRefused (inverseFar p E N) (Position (inverseLatitude p E N) (inverseLongitude p E N))))
+          (answer_tells in_degrees GeodeticRefused (inverse_far p E N) (Position (inverse_latitude p E N) (inverse_longitude p E N))))

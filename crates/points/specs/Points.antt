@@ -4,8 +4,8 @@ use Rattle.units.specs.Refusals.{not_finite, out_of_limits, unless, first_refusa
 use Rattle.units.specs.Answers.{answered}
 use Rattle.parameters.specs.declared.Parameters.{Parameters}
 use Rattle.parameters.specs.ParameterSet.{set_refusal}
-use Rattle.azimuthal_forward.specs.Answer.{forwardFar, eastingOf, northingOf}
-use Rattle.azimuthal_inverse.specs.Answer.{inverseFar, inverseLatitude, inverseLongitude}
+use Rattle.azimuthal_forward.specs.Answer.{forward_far, easting_of, northing_of}
+use Rattle.azimuthal_inverse.specs.Answer.{inverse_far, inverse_latitude, inverse_longitude}
 use Rattle.pairs.specs.declared.GeodeticPair.{GeodeticPair}
 use Rattle.pairs.specs.declared.PlanePair.{PlanePair}
 use Rattle.pairs.specs.declared.PlanePairAnswer.{PlanePairAnswer}
@@ -24,35 +24,35 @@ pair_refusal p x y inside far = first_refusal (set_refusal p) (unless (are_finit
 -- ---- forward
 
 module _ (p : Parameters) (at : GeodeticPair) where
-  unfoldable pub forwardPairRefusal : ℕ
-  forwardPairRefusal =
-      pair_refusal p at.latitude at.longitude (within_globe at) (forwardFar p (latitude_mas at) (longitude_mas at))
+  unfoldable pub forward_pair_refusal : ℕ
+  forward_pair_refusal =
+      pair_refusal p at.latitude at.longitude (within_globe at) (forward_far p (latitude_mas at) (longitude_mas at))
 
-  unfoldable pub forwardPair : PlanePair
-  forwardPair =
-      plane_pair (eastingOf p (latitude_mas at) (longitude_mas at)) (northingOf p (latitude_mas at) (longitude_mas at))
+  unfoldable pub forward_pair : PlanePair
+  forward_pair =
+      plane_pair (easting_of p (latitude_mas at) (longitude_mas at)) (northing_of p (latitude_mas at) (longitude_mas at))
 
 -- what `forward_degrees` answers, and what its answer tells
 unfoldable pub forward_degrees : Parameters → GeodeticPair → PlanePairAnswer
-forward_degrees p at = answered Refused (forwardPairRefusal p at) (Metres (forwardPair p at))
+forward_degrees p at = answered Refused (forward_pair_refusal p at) (Metres (forward_pair p at))
 
 unfoldable pub forward_row : Parameters → GeodeticPair → Row
-forward_row p at = answered refused_row (forwardPairRefusal p at) (accepted_row (forwardPair p at).first (forwardPair p at).second)
+forward_row p at = answered refused_row (forward_pair_refusal p at) (accepted_row (forward_pair p at).first (forward_pair p at).second)
 
 -- ---- inverse
 
 module _ (p : Parameters) (at : PlanePair) where
-  unfoldable pub inversePairRefusal : ℕ
-  inversePairRefusal =
-      pair_refusal p at.first at.second (within_plane at) (inverseFar p (easting_cm at) (northing_cm at))
+  unfoldable pub inverse_pair_refusal : ℕ
+  inverse_pair_refusal =
+      pair_refusal p at.first at.second (within_plane at) (inverse_far p (easting_cm at) (northing_cm at))
 
-  unfoldable pub inversePair : GeodeticPair
-  inversePair =
-      geodetic_pair (inverseLatitude p (easting_cm at) (northing_cm at)).0 (inverseLongitude p (easting_cm at) (northing_cm at))
+  unfoldable pub inverse_pair : GeodeticPair
+  inverse_pair =
+      geodetic_pair (inverse_latitude p (easting_cm at) (northing_cm at)).0 (inverse_longitude p (easting_cm at) (northing_cm at))
 
 -- what `inverse_metres` answers, and what its answer tells
 unfoldable pub inverse_metres : Parameters → PlanePair → GeodeticPairAnswer
-inverse_metres p at = answered NotFound (inversePairRefusal p at) (Degrees (inversePair p at))
+inverse_metres p at = answered NotFound (inverse_pair_refusal p at) (Degrees (inverse_pair p at))
 
 unfoldable pub inverse_row : Parameters → PlanePair → Row
-inverse_row p at = answered refused_row (inversePairRefusal p at) (accepted_row (inversePair p at).latitude (inversePair p at).longitude)
+inverse_row p at = answered refused_row (inverse_pair_refusal p at) (accepted_row (inverse_pair p at).latitude (inverse_pair p at).longitude)

@@ -14,9 +14,9 @@ use Rattle.latitudes.specs.declared.Geodetic.{Geodetic}
 use Rattle.parameters.specs.declared.Parameters.{Parameters}
 use Rattle.parameters.specs.ParameterSet.{set_refusal}
 use Rattle.azimuthal_forward.specs.declared.PlaneAnswer.TheVariants.{Plane}
-use Rattle.azimuthal_forward.specs.Answer.{forwardFar, forwardRefusal, eastingOf, northingOf, forward_of}
+use Rattle.azimuthal_forward.specs.Answer.{forward_far, forward_refusal, easting_of, northing_of, forward_of}
 use Rattle.azimuthal_inverse.specs.declared.GeodeticAnswer.TheVariants.{Position}
-use Rattle.azimuthal_inverse.specs.Answer.{inverseFar, inverseRefusal, inverseLatitude, inverseLongitude, inverse_of}
+use Rattle.azimuthal_inverse.specs.Answer.{inverse_far, inverse_refusal, inverse_latitude, inverse_longitude, inverse_of}
 use Rattle.projection_laws.proofs.Ranges.{position_in_range}
 use Rattle.round_trip.proofs.Limits.{forward_on_plane}
 use Rattle.pairs.specs.declared.GeodeticPair.{GeodeticPair}
@@ -25,7 +25,7 @@ use Rattle.pairs.specs.declared.PlanePairAnswer.TheVariants.{Metres}
 use Rattle.pairs.specs.declared.GeodeticPairAnswer.TheVariants.{Degrees}
 use Rattle.pairs.specs.Pairs.{latitude_mas, longitude_mas, easting_cm, northing_cm, are_finite, within_globe, within_plane, plane_row, geodetic_row}
 use Rattle.points.specs.Points.{pair_refusal}
-use Rattle.points.specs.Points.{forwardPairRefusal, forwardPair, forward_degrees, forward_row, inversePairRefusal, inversePair, inverse_metres, inverse_row}
+use Rattle.points.specs.Points.{forward_pair_refusal, forward_pair, forward_degrees, forward_row, inverse_pair_refusal, inverse_pair, inverse_metres, inverse_row}
 use Rattle.points.proofs.AnswerLaws.{forward_tells, inverse_tells, rounded_on_globe, rounded_on_plane}
 use Rattle.points.proofs.AnswerLaws.{forward_converted as converted-forward, inverse_converted as converted-inverse}
 use Rattle.points_laws.specs.Theorems.{ForwardConverted, InverseConverted, ForwardFinite, InverseFinite, ForwardBack, InverseBack}
@@ -56,22 +56,22 @@ module _ (p : Parameters) (at : GeodeticPair) (pair : PlanePair) (e : forward_de
   abbrev lon : ℤ
   lon = longitude_mas at
 
-  forward_told_lem : (forwardPairRefusal p at ≡ 0) × ((forwardPair p at).first ≡ pair.first) × ((forwardPair p at).second ≡ pair.second)
+  forward_told_lem : (forward_pair_refusal p at ≡ 0) × ((forward_pair p at).first ≡ pair.first) × ((forward_pair p at).second ≡ pair.second)
   unfolding forward_row
-  forward_told_lem = row_values (forwardPairRefusal p at) _ _ _ _ (sym (forward_tells p at) ∙ ap plane_row e)
+  forward_told_lem = row_values (forward_pair_refusal p at) _ _ _ _ (sym (forward_tells p at) ∙ ap plane_row e)
 
-  pub forward_passed : Passed (set_refusal p) (are_finite at.latitude at.longitude) (within_globe at) (forwardFar p φ lon)
-  unfolding forwardPairRefusal pair_refusal
+  pub forward_passed : Passed (set_refusal p) (are_finite at.latitude at.longitude) (within_globe at) (forward_far p φ lon)
+  unfolding forward_pair_refusal pair_refusal
   forward_passed = all_passed _ _ _ _ forward_told_lem.0
 
-  plane_answer : forward_of p φ lon ≡ Plane (eastingOf p φ lon) (northingOf p φ lon)
-  unfolding forward_of forwardRefusal
+  plane_answer : forward_of p φ lon ≡ Plane (easting_of p φ lon) (northing_of p φ lon)
+  unfolding forward_of forward_refusal
   plane_answer = rw (forward_passed.set_passed, rounded_on_globe p at forward_passed.inside_passed, forward_passed.far_passed)
 
-  pub forward_floats : Floats plane plane (eastingOf p φ lon) (northingOf p φ lon) pair.first pair.second
-  unfolding forwardPair
+  pub forward_floats : Floats plane plane (easting_of p φ lon) (northing_of p φ lon) pair.first pair.second
+  unfolding forward_pair
   forward_floats =
-      let size = plane_sizes (eastingOf p φ lon) (northingOf p φ lon) (forward_on_plane p φ lon _ _ plane_answer) in
+      let size = plane_sizes (easting_of p φ lon) (northing_of p φ lon) (forward_on_plane p φ lon _ _ plane_answer) in
       record {
         first_size = size.0;
         second_size = size.1;
@@ -102,25 +102,25 @@ module _ (p : Parameters) (at : PlanePair) (pair : GeodeticPair) (e : inverse_me
   abbrev N : ℤ
   N = northing_cm at
 
-  inverse_told_lem : (inversePairRefusal p at ≡ 0) × ((inversePair p at).latitude ≡ pair.latitude) × ((inversePair p at).longitude ≡ pair.longitude)
+  inverse_told_lem : (inverse_pair_refusal p at ≡ 0) × ((inverse_pair p at).latitude ≡ pair.latitude) × ((inverse_pair p at).longitude ≡ pair.longitude)
   unfolding inverse_row
-  inverse_told_lem = row_values (inversePairRefusal p at) _ _ _ _ (sym (inverse_tells p at) ∙ ap geodetic_row e)
+  inverse_told_lem = row_values (inverse_pair_refusal p at) _ _ _ _ (sym (inverse_tells p at) ∙ ap geodetic_row e)
 
-  pub inverse_passed : Passed (set_refusal p) (are_finite at.first at.second) (within_plane at) (inverseFar p E N)
-  unfolding inversePairRefusal pair_refusal
+  pub inverse_passed : Passed (set_refusal p) (are_finite at.first at.second) (within_plane at) (inverse_far p E N)
+  unfolding inverse_pair_refusal pair_refusal
   inverse_passed = all_passed _ _ _ _ inverse_told_lem.0
 
-  geodetic_answer : inverse_of p E N ≡ Position (inverseLatitude p E N) (inverseLongitude p E N)
-  unfolding inverse_of inverseRefusal
+  geodetic_answer : inverse_of p E N ≡ Position (inverse_latitude p E N) (inverse_longitude p E N)
+  unfolding inverse_of inverse_refusal
   geodetic_answer = rw (inverse_passed.set_passed, rounded_on_plane p at inverse_passed.inside_passed, inverse_passed.far_passed)
 
-  pub inverse_floats : Floats latitude longitude (inverseLatitude p E N).0 (inverseLongitude p E N) pair.latitude pair.longitude
-  unfolding inversePair
+  pub inverse_floats : Floats latitude longitude (inverse_latitude p E N).0 (inverse_longitude p E N) pair.latitude pair.longitude
+  unfolding inverse_pair
   inverse_floats =
-      let range = position_in_range p E N (inverseLatitude p E N) (inverseLongitude p E N) geodetic_answer in
+      let range = position_in_range p E N (inverse_latitude p E N) (inverse_longitude p E N) geodetic_answer in
       record {
         first_size = range.0;
-        second_size = abs_between (inverseLongitude p E N) (<ℤ-≤ℤ range.1) range.2;
+        second_size = abs_between (inverse_longitude p E N) (<ℤ-≤ℤ range.1) range.2;
         first_is = sym inverse_told_lem.1;
         second_is = sym inverse_told_lem.2;
       }

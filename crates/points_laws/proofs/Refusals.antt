@@ -17,19 +17,19 @@ use Rattle.units.proofs.Chains.{Gives, chain, another}
 use Rattle.parameters.specs.declared.Parameters.{Parameters}
 use Rattle.parameters.specs.ParameterSet.{set_refusal}
 use Rattle.parameters.proofs.Fields.{set_gives}
-use Rattle.constants.specs.Derived.{constantsOf}
+use Rattle.constants.specs.Derived.{constants_of}
 use Rattle.azimuthal_forward.specs.Steps.{near_enough}
-use Rattle.azimuthal_forward.specs.Answer.{nearness, forwardFar}
+use Rattle.azimuthal_forward.specs.Answer.{nearness, forward_far}
 use Rattle.azimuthal_inverse.specs.Steps.{at_origin, on_map, K}
 use Rattle.sphere_points.specs.Sphere.{G}
-use Rattle.azimuthal_inverse.specs.Answer.{farFrom, inverseFar}
+use Rattle.azimuthal_inverse.specs.Answer.{far_from, inverse_far}
 use Rattle.pairs.specs.declared.GeodeticPair.{GeodeticPair}
 use Rattle.pairs.specs.declared.PlanePair.{PlanePair}
 use Rattle.pairs.specs.declared.PlanePairAnswer.TheVariants.{Metres, Refused as PlaneRefused}
 use Rattle.pairs.specs.declared.GeodeticPairAnswer.TheVariants.{Degrees, Refused as NotFound}
 use Rattle.pairs.specs.Pairs.{degrees, metres, latitude_mas, longitude_mas, easting_cm, northing_cm}
 use Rattle.points.specs.Points.{pair_refusal}
-use Rattle.points.specs.Points.{forwardPairRefusal, forwardPair, forward_degrees, forward_row, inversePairRefusal, inversePair, inverse_metres, inverse_row}
+use Rattle.points.specs.Points.{forward_pair_refusal, forward_pair, forward_degrees, forward_row, inverse_pair_refusal, inverse_pair, inverse_metres, inverse_row}
 use Rattle.points.proofs.AnswerLaws.{forward_tells, inverse_tells}
 use Rattle.point_lists.specs.declared.ListAnswer.TheVariants.{Refused}
 use Rattle.row_lists.specs.Rows.{zeros}
@@ -44,15 +44,15 @@ use Rattle.points_laws.proofs.Listed.{at_each_index}
 -- ---- the numbers of the chains
 
 pub forward_numbers : ForwardNumbers
-unfolding forwardPairRefusal pair_refusal forwardFar
+unfolding forward_pair_refusal pair_refusal forward_far
 forward_numbers p at =
-    let number : Gives (0 ∷ pair_refusals) (forwardPairRefusal p at) = search (chain, set_gives p) depth 40 in
+    let number : Gives (0 ∷ pair_refusals) (forward_pair_refusal p at) = search (chain, set_gives p) depth 40 in
     number.one
 
 pub inverse_numbers : InverseNumbers
-unfolding inversePairRefusal pair_refusal inverseFar farFrom
+unfolding inverse_pair_refusal pair_refusal inverse_far far_from
 inverse_numbers p at =
-    let number : Gives (0 ∷ pair_refusals) (inversePairRefusal p at) = search (chain, set_gives p) depth 40 in
+    let number : Gives (0 ∷ pair_refusals) (inverse_pair_refusal p at) = search (chain, set_gives p) depth 40 in
     number.one
 
 pub list_numbers : ListNumbers
@@ -62,12 +62,12 @@ list_numbers p xs ys first second mark =
     number.one
 
 -- with an accepted set, of the rest of the chain
-forward_point : (p : Parameters) → set_refusal p ≡ 0 → (at : GeodeticPair) → Gives (0 ∷ point_refusals) (forwardPairRefusal p at)
-unfolding forwardPairRefusal pair_refusal forwardFar
+forward_point : (p : Parameters) → set_refusal p ≡ 0 → (at : GeodeticPair) → Gives (0 ∷ point_refusals) (forward_pair_refusal p at)
+unfolding forward_pair_refusal pair_refusal forward_far
 forward_point p set at = rw set (search chain depth 40)
 
-inverse_point : (p : Parameters) → set_refusal p ≡ 0 → (at : PlanePair) → Gives (0 ∷ point_refusals) (inversePairRefusal p at)
-unfolding inversePairRefusal pair_refusal inverseFar farFrom
+inverse_point : (p : Parameters) → set_refusal p ≡ 0 → (at : PlanePair) → Gives (0 ∷ point_refusals) (inverse_pair_refusal p at)
+unfolding inverse_pair_refusal pair_refusal inverse_far far_from
 inverse_point p set at = rw set (search chain depth 40)
 
 mark_number : (forward : Bool) (p : Parameters) → set_refusal p ≡ 0 → (x y : Float) → OneOf (0 ∷ point_refusals) (row_of forward p x y).mark
@@ -96,12 +96,12 @@ list_number (suc n) count k e = let is : suc n ≡ k = cc in (is, λ z. nothing 
 pub forward_refused : ForwardRefused
 unfolding forward_degrees
 forward_refused p at n e =
-    another pair_refusals (forwardPairRefusal p at) n (forward_numbers p at) (plane_number (forwardPairRefusal p at) (forwardPair p at) n e)
+    another pair_refusals (forward_pair_refusal p at) n (forward_numbers p at) (plane_number (forward_pair_refusal p at) (forward_pair p at) n e)
 
 pub inverse_refused : InverseRefused
 unfolding inverse_metres
 inverse_refused p at n e =
-    another pair_refusals (inversePairRefusal p at) n (inverse_numbers p at) (geodetic_number (inversePairRefusal p at) (inversePair p at) n e)
+    another pair_refusals (inverse_pair_refusal p at) n (inverse_numbers p at) (geodetic_number (inverse_pair_refusal p at) (inverse_pair p at) n e)
 
 pub list_refused_numbers : ListRefusedNumbers
 list_refused_numbers p row xs ys first first' second second' mark mark' answer n call e =
@@ -143,21 +143,21 @@ geodetic_four : (n : ℕ) (pair : GeodeticPair) → (answered NotFound n (Degree
 geodetic_four n pair = (λ e. (geodetic_number n pair too_far e).0, λ e. ap (λ (k : ℕ). answered NotFound k (Degrees pair)) e)
 
 pub forward_far_exactly : ForwardFarExactly
-unfolding forward_degrees forwardPairRefusal pair_refusal forwardFar
+unfolding forward_degrees forward_pair_refusal pair_refusal forward_far
 forward_far_exactly p at set finite inside =
     let g = nearness p (latitude_mas at) (longitude_mas at) in
     rw (set, finite, inside)
-    (Iff.trans (plane_four (unless (near_enough g) too_far 0) (forwardPair p at)) (Iff.trans (link_fails (near_enough g)) (not_near g)))
+    (Iff.trans (plane_four (unless (near_enough g) too_far 0) (forward_pair p at)) (Iff.trans (link_fails (near_enough g)) (not_near g)))
 
 pub inverse_far_exactly : InverseFarExactly
-unfolding inverse_metres inversePairRefusal pair_refusal inverseFar farFrom
+unfolding inverse_metres inverse_pair_refusal pair_refusal inverse_far far_from
 inverse_far_exactly p at set finite inside =
-    let k = constantsOf p in
+    let k = constants_of p in
     let dE = easting_cm at -ℤ p.false_easting in
     let dN = northing_cm at -ℤ p.false_northing in
     let g = G (K k dE dN) in
     rw (set, finite, inside)
-    (Iff.trans (geodetic_four _ (inversePair p at))
+    (Iff.trans (geodetic_four _ (inverse_pair p at))
     (Iff.trans (steps_fail (at_origin dE dN) (on_map k dE dN) (near_enough g)) (Iff.and Iff.rfl (or_not_near (on_map k dE dN ≡ false) g))))
 
 -- ---- what is told decides the answer
@@ -165,13 +165,13 @@ inverse_far_exactly p at set finite inside =
 pub forward_decided : ForwardDecided
 unfolding forward_degrees forward_row
 forward_decided p at first second e =
-    let pair = forwardPair p at in
-    let is = row_values (forwardPairRefusal p at) pair.first pair.second first second (sym (forward_tells p at) ∙ e) in
+    let pair = forward_pair p at in
+    let is = row_values (forward_pair_refusal p at) pair.first pair.second first second (sym (forward_tells p at) ∙ e) in
     rw is.0 (ap₂ (λ (x y : Float). Metres (metres x y)) is.1 is.2)
 
 pub inverse_decided : InverseDecided
 unfolding inverse_metres inverse_row
 inverse_decided p at first second e =
-    let pair = inversePair p at in
-    let is = row_values (inversePairRefusal p at) pair.latitude pair.longitude first second (sym (inverse_tells p at) ∙ e) in
+    let pair = inverse_pair p at in
+    let is = row_values (inverse_pair_refusal p at) pair.latitude pair.longitude first second (sym (inverse_tells p at) ∙ e) in
     rw is.0 (ap₂ (λ (x y : Float). Degrees (degrees x y)) is.1 is.2)

@@ -7,7 +7,7 @@ use Rattle.parameters.specs.declared.Parameters.{Parameters}
 use Rattle.parameters.specs.ParameterSet.{set_refusal}
 use Rattle.parameters.specs.FieldTheorems.{set_refusals}
 use Rattle.constants.specs.declared.Constants.{Constants}
-use Rattle.constants.specs.Derived.{constantsOf}
+use Rattle.constants.specs.Derived.{constants_of}
 use Rattle.azimuthal_forward.specs.Answer.{nearness}
 use Rattle.azimuthal_inverse.specs.Steps.{at_origin, on_map, K}
 use Rattle.sphere_points.specs.Sphere.{G}
@@ -18,7 +18,7 @@ use Rattle.pairs.specs.declared.PlanePairAnswer.TheVariants.{Metres, Refused as 
 use Rattle.pairs.specs.declared.GeodeticPairAnswer.TheVariants.{Degrees, Refused as NotFound}
 use Rattle.pairs.specs.Pairs.{degrees, metres, easting_cm, northing_cm, latitude_mas, longitude_mas, are_finite, within_globe, within_plane}
 use Rattle.pairs.specs.Pairs.{accepted_row, plane_row, geodetic_row}
-use Rattle.points.specs.Points.{forwardPairRefusal, forward_degrees, inversePairRefusal, inverse_metres}
+use Rattle.points.specs.Points.{forward_pair_refusal, forward_degrees, inverse_pair_refusal, inverse_metres}
 use Rattle.point_lists.specs.declared.ListAnswer.{ListAnswer}
 use Rattle.point_lists.specs.declared.ListAnswer.TheVariants.{Refused}
 use Rattle.row_lists.specs.InnerRows.{row_of}
@@ -40,10 +40,10 @@ abbrev pub list_refusals : List ℕ
 list_refusals = unequal_lists ∷ long_lists ∷ set_refusals
 
 abbrev pub ForwardNumbers : Type 0
-ForwardNumbers = (p : Parameters) (at : GeodeticPair) → OneOf (0 ∷ pair_refusals) (forwardPairRefusal p at)
+ForwardNumbers = (p : Parameters) (at : GeodeticPair) → OneOf (0 ∷ pair_refusals) (forward_pair_refusal p at)
 
 abbrev pub InverseNumbers : Type 0
-InverseNumbers = (p : Parameters) (at : PlanePair) → OneOf (0 ∷ pair_refusals) (inversePairRefusal p at)
+InverseNumbers = (p : Parameters) (at : PlanePair) → OneOf (0 ∷ pair_refusals) (inverse_pair_refusal p at)
 
 -- The same of the answers: one that is refused carries one of these numbers, so never 0.
 abbrev pub ForwardRefused : Type 0
@@ -94,7 +94,7 @@ InverseFarExactly =
     are_finite at.first at.second ≡ true →
     within_plane at ≡ true →
     (inverse_metres p at ≡ NotFound too_far)
-    ↔ FarFromCentre (constantsOf p) (easting_cm at -ℤ p.false_easting) (northing_cm at -ℤ p.false_northing)
+    ↔ FarFromCentre (constants_of p) (easting_cm at -ℤ p.false_easting) (northing_cm at -ℤ p.false_northing)
 
 -- ---- What is told of an answer decides it: a mark of 0 stands for an accepted answer alone.
 

@@ -29,9 +29,9 @@ use Rattle.azimuthal_inverse.specs.declared.GeodeticAnswer.TheVariants.{Position
 use Rattle.units.specs.Spans.{within, same}
 use Rattle.parameters.specs.ParameterSet.{polar, set_refusal}
 use Rattle.latitudes.proofs.AuthalicLaws.{beta_mas, beta_odd, beta_north_pole, beta_south_pole}
-use Rattle.constants.specs.Derived.{seriesOf, β0, S0, C0, constantsOf}
+use Rattle.constants.specs.Derived.{series_of, β0, S0, C0, constants_of}
 use Rattle.azimuthal_forward.specs.Steps.{H, b, c, u, v, w, G, dE, dN}
-use Rattle.azimuthal_forward.specs.Answer.{nearness, eastingOf, northingOf, forward_of, plane_told}
+use Rattle.azimuthal_forward.specs.Answer.{nearness, easting_of, northing_of, forward_of, plane_told}
 use Rattle.azimuthal_inverse.specs.Steps.{at_origin}
 use Rattle.azimuthal_inverse.specs.Answer.{inverse_of, geodetic_told}
 use Rattle.parameters.proofs.AcceptedSet.{accepted_fields, lat0_size, polar_cases}
@@ -57,19 +57,19 @@ no_distance r x g e h =
 -- a position whose u and w are 0
 module _ (p : Parameters) (ok : set_refusal p ≡ 0) (φ : Geodetic) (lon : ℤ) (φ-size : nat_abs φ.0 ≤ right_angle) (lon-size : nat_abs lon ≤ half_turn) where
   pub to_false_origin :
-      u (constantsOf p) φ (lon -ℤ p.lon0) ≡ pos 0 →
-      w (constantsOf p) φ (lon -ℤ p.lon0) ≡ pos 0 →
-      pos 20_000_000 ≤ℤ G (constantsOf p) φ (lon -ℤ p.lon0) →
+      u (constants_of p) φ (lon -ℤ p.lon0) ≡ pos 0 →
+      w (constants_of p) φ (lon -ℤ p.lon0) ≡ pos 0 →
+      pos 20_000_000 ≤ℤ G (constants_of p) φ (lon -ℤ p.lon0) →
       forward_of p φ lon ≡ Plane p.false_easting p.false_northing
-  unfolding nearness eastingOf northingOf dE dN
+  unfolding nearness easting_of northing_of dE dN
   to_false_origin no-u no-w h =
       forward_plane p φ lon ok (on_globe_by φ lon φ-size lon-size) (near_enough_by h)
       ∙ ap₂ (λ (x y : ℤ). Plane (p.false_easting +ℤ x) (p.false_northing +ℤ y))
-      (no_distance (constantsOf p).rd (u (constantsOf p) φ (lon -ℤ p.lon0)) (G (constantsOf p) φ (lon -ℤ p.lon0)) no-u h)
-      (no_distance (constantsOf p).rn (w (constantsOf p) φ (lon -ℤ p.lon0)) (G (constantsOf p) φ (lon -ℤ p.lon0)) no-w h)
+      (no_distance (constants_of p).rd (u (constants_of p) φ (lon -ℤ p.lon0)) (G (constants_of p) φ (lon -ℤ p.lon0)) no-u h)
+      (no_distance (constants_of p).rn (w (constants_of p) φ (lon -ℤ p.lon0)) (G (constants_of p) φ (lon -ℤ p.lon0)) no-w h)
       ∙ ap₂ Plane (+ℤ_idr p.false_easting) (+ℤ_idr p.false_northing)
 
-  pub to_refused_4 : G (constantsOf p) φ (lon -ℤ p.lon0) <ℤ pos 20_000_000 → forward_of p φ lon ≡ Refused 4
+  pub to_refused_4 : G (constants_of p) φ (lon -ℤ p.lon0) <ℤ pos 20_000_000 → forward_of p φ lon ≡ Refused 4
   unfolding nearness
   to_refused_4 h =
       forward_too_far p φ lon ok (on_globe_by φ lon φ-size lon-size) (not_near_enough h)
@@ -97,7 +97,7 @@ nothing_left e = ap (λ (z : ℤ). near z unit) e ∙ near_zero unit some
 
 module _ (p : Parameters) where
   k : Constants
-  k = constantsOf p
+  k = constants_of p
 
   φ0 : Geodetic
   φ0 = p.lat0
@@ -115,28 +115,28 @@ module _ (p : Parameters) where
 
   -- at the centre's latitude b and c are S0 and C0; at the opposite one, −S0 and C0
   centre_b : (Δ : ℤ) → b k φ0 Δ ≡ S
-  unfolding b k φ0 S constantsOf S0 β0
+  unfolding b k φ0 S constants_of S0 β0
   centre_b Δ = refl
 
   centre_c : (Δ : ℤ) → c k φ0 Δ ≡ C
-  unfolding c k φ0 C constantsOf C0 β0
+  unfolding c k φ0 C constants_of C0 β0
   centre_c Δ = refl
 
   opposite_b : (Δ : ℤ) → b k (opposite φ0) Δ ≡ neg_ℤ S
-  unfolding b k φ0 S constantsOf S0 β0
-  opposite_b Δ = ap sine (beta_odd (seriesOf p.e2) p.lat0.0) ∙ sine_odd (beta_mas (seriesOf p.e2) p.lat0.0)
+  unfolding b k φ0 S constants_of S0 β0
+  opposite_b Δ = ap sine (beta_odd (series_of p.e2) p.lat0.0) ∙ sine_odd (beta_mas (series_of p.e2) p.lat0.0)
 
   opposite_c : (Δ : ℤ) → c k (opposite φ0) Δ ≡ C
-  unfolding c k φ0 C constantsOf C0 β0
-  opposite_c Δ = ap cosine (beta_odd (seriesOf p.e2) p.lat0.0) ∙ cosine_even (beta_mas (seriesOf p.e2) p.lat0.0)
+  unfolding c k φ0 C constants_of C0 β0
+  opposite_c Δ = ap cosine (beta_odd (series_of p.e2) p.lat0.0) ∙ cosine_even (beta_mas (series_of p.e2) p.lat0.0)
 
   -- w and G, where b and v are known
   w_by : (φ : Geodetic) (Δ : ℤ) {x y : ℤ} → b k φ Δ ≡ x → v k φ Δ ≡ y → w k φ Δ ≡ near (C *ℤ x -ℤ S *ℤ y) unit
-  unfolding w k S C φ0 constantsOf
+  unfolding w k S C φ0 constants_of
   w_by φ Δ e f = ap₂ (λ (x y : ℤ). near (C *ℤ x -ℤ S *ℤ y) unit) e f
 
   G-by : (φ : Geodetic) (Δ : ℤ) {x y : ℤ} → b k φ Δ ≡ x → v k φ Δ ≡ y → G k φ Δ ≡ U +ℤ near (S *ℤ x +ℤ C *ℤ y) unit
-  unfolding G k S C φ0 constantsOf
+  unfolding G k S C φ0 constants_of
   G-by φ Δ e f = ap₂ (λ (x y : ℤ). U +ℤ near (S *ℤ x +ℤ C *ℤ y) unit) e f
 
   -- v is c, or −c, where the cosine of Δ is U, or −U
@@ -202,18 +202,18 @@ module _ (p : Parameters) where
 -- C0 and S0 of a pole
 pole_C : (p : Parameters) → (p.lat0.0 ≡ pos right_angle) ⊎ (p.lat0.0 ≡ neg_ℤ (pos right_angle)) → C p ≡ pos 0
 unfolding C C0 β0 φ0
-pole_C p (inl e) = ap (λ (z : ℤ). cosine (beta_mas (seriesOf p.e2) z)) e ∙ ap cosine (beta_north_pole (seriesOf p.e2)) ∙ cosine_right
+pole_C p (inl e) = ap (λ (z : ℤ). cosine (beta_mas (series_of p.e2) z)) e ∙ ap cosine (beta_north_pole (series_of p.e2)) ∙ cosine_right
 pole_C p (inr e) =
-    ap (λ (z : ℤ). cosine (beta_mas (seriesOf p.e2) z)) e ∙ ap cosine (beta_south_pole (seriesOf p.e2)) ∙ cosine_even (pos right_angle) ∙ cosine_right
+    ap (λ (z : ℤ). cosine (beta_mas (series_of p.e2) z)) e ∙ ap cosine (beta_south_pole (series_of p.e2)) ∙ cosine_even (pos right_angle) ∙ cosine_right
 
 pole_S : (p : Parameters) → (p.lat0.0 ≡ pos right_angle) ⊎ (p.lat0.0 ≡ neg_ℤ (pos right_angle)) → near (S p *ℤ S p) unit ≡ U
 unfolding S S0 β0 φ0
 pole_S p (inl e) =
-    ap (λ (z : ℤ). near (z *ℤ z) unit) (ap (λ (z : ℤ). sine (beta_mas (seriesOf p.e2) z)) e ∙ ap sine (beta_north_pole (seriesOf p.e2)) ∙ sine_right)
+    ap (λ (z : ℤ). near (z *ℤ z) unit) (ap (λ (z : ℤ). sine (beta_mas (series_of p.e2) z)) e ∙ ap sine (beta_north_pole (series_of p.e2)) ∙ sine_right)
     ∙ near_whole U unit some
 pole_S p (inr e) =
     ap (λ (z : ℤ). near (z *ℤ z) unit)
-    (ap (λ (z : ℤ). sine (beta_mas (seriesOf p.e2) z)) e ∙ ap sine (beta_south_pole (seriesOf p.e2)) ∙ sine_odd (pos right_angle) ∙ ap neg_ℤ sine_right)
+    (ap (λ (z : ℤ). sine (beta_mas (series_of p.e2) z)) e ∙ ap sine (beta_south_pole (series_of p.e2)) ∙ sine_odd (pos right_angle) ∙ ap neg_ℤ sine_right)
     ∙ near_whole U unit some
 
 -- ---- the answers
@@ -235,7 +235,7 @@ module _ (p : Parameters) (ok : set_refusal p ≡ 0) where
       let N = p.false_northing in
       let fields = accepted_fields p ok in
       inverse_on_plane p E N ok (on_plane_by E N (le_trans fields.easting_size (lit≤ tt)) (le_trans fields.northing_size (lit≤ tt)))
-      ∙ from_origin p (constantsOf p) (E -ℤ E) (N -ℤ N) (rw (none E, none N) refl)
+      ∙ from_origin p (constants_of p) (E -ℤ E) (N -ℤ N) (rw (none E, none N) refl)
 
   pub pole_plane : polar p.lat0 ≡ true → (lon : ℤ) → nat_abs lon ≤ half_turn → forward_of p p.lat0 lon ≡ Plane p.false_easting p.false_northing
   unfolding k φ0

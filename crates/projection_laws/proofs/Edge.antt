@@ -20,11 +20,11 @@ use Rattle.constants.specs.declared.Constants.{Constants}
 use Rattle.azimuthal_inverse.specs.declared.GeodeticAnswer.TheVariants.{Refused}
 use Rattle.units.specs.Spans.{within, same}
 use Rattle.parameters.specs.ParameterSet.{set_refusal}
-use Rattle.constants.specs.Derived.{RD, constantsOf}
+use Rattle.constants.specs.Derived.{RD, constants_of}
 use Rattle.azimuthal_forward.specs.Steps.{near_enough}
 use Rattle.azimuthal_inverse.specs.Steps.{K, X, Y, at_origin, on_map}
 use Rattle.sphere_points.specs.Sphere.{G, versine_of}
-use Rattle.azimuthal_inverse.specs.Answer.{answerFrom, inverse_of, geodetic_told}
+use Rattle.azimuthal_inverse.specs.Answer.{answer_from, inverse_of, geodetic_told}
 use Rattle.parameters.proofs.AcceptedSet.{accepted_fields}
 use Rattle.constants.proofs.ConstantsLaws.{Sound, sound}
 use Rattle.azimuthal_inverse.proofs.AnswerLaws.{from_too_far, inverse_on_plane}
@@ -85,7 +85,7 @@ module _ (p : Parameters) (ok : set_refusal p ≡ 0) where
   E = p.false_easting +ℤ pos 2 *ℤ RD p
 
   E-size : nat_abs E ≤ plane_limit
-  unfolding E constantsOf
+  unfolding E constants_of
   E-size =
       let east = abs_mul_le (pos 2) (RD p) (le_refl 2) (sound p ok).rd_between.most in
       le_trans (abs_add_le p.false_easting (pos 2 *ℤ RD p) (accepted_fields p ok).easting_size east) (lit≤ tt)
@@ -98,14 +98,14 @@ module _ (p : Parameters) (ok : set_refusal p ≡ 0) where
   edge_d_e = ring (p.false_easting ∷ RD p ∷ []) (search quote depth 40 fits 20000) tt
 
   edge_refused : inverse_of p E p.false_northing ≡ Refused 4
-  unfolding constantsOf
+  unfolding constants_of
   edge_refused =
-      let k = constantsOf p in
+      let k = constants_of p in
       let radii = sound p ok in
       inverse_on_plane p E p.false_northing ok (on_plane_by E p.false_northing E-size N-size)
-      ∙ ap₂ (answerFrom p k) edge_d_e (+ℤ_invr p.false_northing)
+      ∙ ap₂ (answer_from p k) edge_d_e (+ℤ_invr p.false_northing)
       ∙ from_too_far p k (pos 2 *ℤ RD p) (pos 0) (edge_not_origin k radii) (edge_on_map k radii) (edge_too_far k radii)
 
 pub edge_inverse : EdgeInverse
-unfolding constantsOf E
-edge_inverse p ok = (edge_on_map (constantsOf p) (sound p ok), ap geodetic_told (edge_refused p ok))
+unfolding constants_of E
+edge_inverse p ok = (edge_on_map (constants_of p) (sound p ok), ap geodetic_told (edge_refused p ok))

@@ -25,12 +25,12 @@ use Rattle.units.specs.declared.answers.Told.{Told}
 use Rattle.units.specs.Answers.{accepted, refused, answered}
 use Rattle.parameters.specs.ParameterSet.{set_refusal}
 use Rattle.geodetic_search.specs.Reverse.{geodetic}
-use Rattle.constants.specs.Derived.{constantsOf}
+use Rattle.constants.specs.Derived.{constants_of}
 use Rattle.azimuthal_forward.specs.Steps.{b, c, u, v, w, G, dE, dN}
-use Rattle.azimuthal_forward.specs.Answer.{on_globe, nearness, forwardFar, forwardRefusal, eastingOf, northingOf, forward_of}
+use Rattle.azimuthal_forward.specs.Answer.{on_globe, nearness, forward_far, forward_refusal, easting_of, northing_of, forward_of}
 use Rattle.azimuthal_inverse.specs.Steps.{at_origin, found}
 use Rattle.sphere_points.specs.Sphere.{latitude_of, longitude_of}
-use Rattle.azimuthal_inverse.specs.Answer.{latitudeFrom, longitudeFrom, inverseFar, inverseRefusal, inverseLatitude, inverseLongitude}
+use Rattle.azimuthal_inverse.specs.Answer.{latitude_from, longitude_from, inverse_far, inverse_refusal, inverse_latitude, inverse_longitude}
 use Rattle.azimuthal_inverse.specs.Answer.{geodetic_told, inverse_of, inverse_told}
 use Rattle.azimuthal_inverse.proofs.AnswerLaws.{inverse_tells}
 use Rattle.parameters.proofs.AcceptedSet.{Accepted, accepted_fields, lat0_size}
@@ -44,16 +44,16 @@ use Rattle.projection_laws.specs.Theorems.{InverseRange, HalfTurnAlike}
 
 -- the latitude and the longitude, for any constants: the centre's own, or those of the point that the steps find
 module _ (p : Parameters) (ok : Accepted p) (k : Constants) (dE dN : ℤ) where
-  latitude_range : nat_abs (latitudeFrom p k dE dN).0 ≤ right_angle
-  unfolding latitudeFrom
+  latitude_range : nat_abs (latitude_from p k dE dN).0 ≤ right_angle
+  unfolding latitude_from
   latitude_range = at (at_origin dE dN)
     where
       at : (t : Bool) → nat_abs (cond t p.lat0 (geodetic k.series (latitude_of (found k dE dN)))).0 ≤ right_angle
       at true = lat0_size p.lat0 ok.lat0_accepted
       at false = geodetic_size k.series (latitude_of (found k dE dN))
 
-  longitude_range : (neg_ℤ (pos half_turn) <ℤ longitudeFrom p k dE dN) × (longitudeFrom p k dE dN ≤ℤ pos half_turn)
-  unfolding longitudeFrom
+  longitude_range : (neg_ℤ (pos half_turn) <ℤ longitude_from p k dE dN) × (longitude_from p k dE dN ≤ℤ pos half_turn)
+  unfolding longitude_from
   longitude_range = at (at_origin dE dN)
     where
       Δ : ℤ
@@ -73,16 +73,16 @@ told_range (suc n) lat lon h = (lit≤ tt, omega order, omega order)
 
 -- where the number is 0 the set is accepted
 pub inverse_range : InverseRange
-unfolding inverse_told inverseRefusal inverseLatitude inverseLongitude
+unfolding inverse_told inverse_refusal inverse_latitude inverse_longitude
 inverse_range p E N =
     subst InRange (sym (inverse_tells p E N))
-    (told_range (inverseRefusal p E N) (inverseLatitude p E N).0 (inverseLongitude p E N)
+    (told_range (inverse_refusal p E N) (inverse_latitude p E N).0 (inverse_longitude p E N)
     (λ passed.
-    let ok = accepted_fields p (both_passed (set_refusal p) (unless (on_plane E N) 3 (inverseFar p E N)) passed).0 in
+    let ok = accepted_fields p (both_passed (set_refusal p) (unless (on_plane E N) 3 (inverse_far p E N)) passed).0 in
     let dE = E -ℤ p.false_easting in
     let dN = N -ℤ p.false_northing in
-    let longitude = longitude_range p ok (constantsOf p) dE dN in
-    (latitude_range p ok (constantsOf p) dE dN, longitude.0, longitude.1)))
+    let longitude = longitude_range p ok (constants_of p) dE dN in
+    (latitude_range p ok (constants_of p) dE dN, longitude.0, longitude.1)))
 
 -- the same of a position that is answered
 pub position_in_range :
@@ -134,11 +134,11 @@ unfolding on_globe within
 half_turn_globe φ = refl
 
 pub half_turn_alike : HalfTurnAlike
-unfolding forward_of forwardRefusal forwardFar nearness eastingOf northingOf
+unfolding forward_of forward_refusal forward_far nearness easting_of northing_of
 half_turn_alike p φ =
     let e : pos half_turn -ℤ p.lon0 ≡ (neg_ℤ (pos half_turn) -ℤ p.lon0) +ℤ pos full_turn = turned p.lon0 in
     let Δ : ℤ = neg_ℤ (pos half_turn) -ℤ p.lon0 in
-    rw (half_turn_globe φ, e, G-turn (constantsOf p) φ Δ, d_e_turn (constantsOf p) φ Δ, d_n_turn (constantsOf p) φ Δ) refl
+    rw (half_turn_globe φ, e, G-turn (constants_of p) φ Δ, d_e_turn (constants_of p) φ Δ, d_n_turn (constants_of p) φ Δ) refl
   where
     turned : (x : ℤ) → pos half_turn -ℤ x ≡ (neg_ℤ (pos half_turn) -ℤ x) +ℤ pos full_turn
     turned x = ring (x ∷ []) (search quote depth 40 fits 20000) tt

@@ -1,4 +1,4 @@
--- Which refusals the calls in whole units give: the chains of `forwardRefusal` and `inverseRefusal` have no other number. An answer is refused where its
+-- Which refusals the calls in whole units give: the chains of `forward_refusal` and `inverse_refusal` have no other number. An answer is refused where its
 -- number is not 0 and carries that number, so what is told decides the answer.
 -- Assumes nothing.
 use mathlib.Core.Path.{◌≡◌, refl, sym, ap, ap₂, ◌∙◌}
@@ -12,10 +12,10 @@ use Rattle.units.proofs.Chains.{Gives, chain, another}
 use Rattle.latitudes.specs.declared.Geodetic.{Geodetic}
 use Rattle.parameters.proofs.Fields.{set_gives}
 use Rattle.azimuthal_forward.specs.declared.PlaneAnswer.TheVariants.{Plane, Refused}
-use Rattle.azimuthal_forward.specs.Answer.{forwardFar, forwardRefusal, eastingOf, northingOf, forward_of, forward_told}
+use Rattle.azimuthal_forward.specs.Answer.{forward_far, forward_refusal, easting_of, northing_of, forward_of, forward_told}
 use Rattle.azimuthal_forward.proofs.AnswerLaws.{forward_tells}
 use Rattle.azimuthal_inverse.specs.declared.GeodeticAnswer.TheVariants.{Position, Refused as NotFound}
-use Rattle.azimuthal_inverse.specs.Answer.{farFrom, inverseFar, inverseRefusal, inverseLatitude, inverseLongitude}
+use Rattle.azimuthal_inverse.specs.Answer.{far_from, inverse_far, inverse_refusal, inverse_latitude, inverse_longitude}
 use Rattle.azimuthal_inverse.specs.Answer.{inverse_of, inverse_told}
 use Rattle.azimuthal_inverse.proofs.AnswerLaws.{inverse_tells}
 use Rattle.latitudes.specs.Latitude.{latitude}
@@ -25,15 +25,15 @@ use Rattle.projection_laws.specs.Theorems.{ForwardDecided, InverseDecided}
 -- ---- the numbers of the chains
 
 pub forward_numbers : ForwardNumbers
-unfolding forwardRefusal forwardFar
+unfolding forward_refusal forward_far
 forward_numbers p φ lon =
-    let number : Gives (0 ∷ whole_refusals) (forwardRefusal p φ lon) = search (chain, set_gives p) depth 40 in
+    let number : Gives (0 ∷ whole_refusals) (forward_refusal p φ lon) = search (chain, set_gives p) depth 40 in
     number.one
 
 pub inverse_numbers : InverseNumbers
-unfolding inverseRefusal inverseFar farFrom
+unfolding inverse_refusal inverse_far far_from
 inverse_numbers p E N =
-    let number : Gives (0 ∷ whole_refusals) (inverseRefusal p E N) = search (chain, set_gives p) depth 40 in
+    let number : Gives (0 ∷ whole_refusals) (inverse_refusal p E N) = search (chain, set_gives p) depth 40 in
     number.one
 
 -- ---- the answers
@@ -57,14 +57,14 @@ geodetic_number (suc n) φ lon k e =
 pub forward_refused : ForwardRefused
 unfolding forward_of
 forward_refused p φ lon n e =
-    another whole_refusals (forwardRefusal p φ lon) n (forward_numbers p φ lon)
-    (plane_number (forwardRefusal p φ lon) (eastingOf p φ lon) (northingOf p φ lon) n e)
+    another whole_refusals (forward_refusal p φ lon) n (forward_numbers p φ lon)
+    (plane_number (forward_refusal p φ lon) (easting_of p φ lon) (northing_of p φ lon) n e)
 
 pub inverse_refused : InverseRefused
 unfolding inverse_of
 inverse_refused p E N n e =
-    another whole_refusals (inverseRefusal p E N) n (inverse_numbers p E N)
-    (geodetic_number (inverseRefusal p E N) (inverseLatitude p E N) (inverseLongitude p E N) n e)
+    another whole_refusals (inverse_refusal p E N) n (inverse_numbers p E N)
+    (geodetic_number (inverse_refusal p E N) (inverse_latitude p E N) (inverse_longitude p E N) n e)
 
 -- ---- what is told decides the answer
 
@@ -76,11 +76,11 @@ told_values (suc n) a b a' b' e = absurd (nothing (ap (λ (t : Told). t.refusal)
 pub forward_decided : ForwardDecided
 unfolding forward_of forward_told
 forward_decided p φ lon E N e =
-    let is = told_values (forwardRefusal p φ lon) (eastingOf p φ lon) (northingOf p φ lon) E N (sym (forward_tells p φ lon) ∙ e) in
+    let is = told_values (forward_refusal p φ lon) (easting_of p φ lon) (northing_of p φ lon) E N (sym (forward_tells p φ lon) ∙ e) in
     rw (is.0, is.1, is.2)
 
 pub inverse_decided : InverseDecided
 unfolding inverse_of inverse_told
 inverse_decided p E N lat lon e =
-    let is = told_values (inverseRefusal p E N) (inverseLatitude p E N).0 (inverseLongitude p E N) lat lon (sym (inverse_tells p E N) ∙ e) in
+    let is = told_values (inverse_refusal p E N) (inverse_latitude p E N).0 (inverse_longitude p E N) lat lon (sym (inverse_tells p E N) ∙ e) in
     rw is.0 (ap₂ (λ (x y : ℤ). Position (latitude x) y) is.1 is.2)

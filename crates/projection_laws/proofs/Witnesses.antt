@@ -12,7 +12,7 @@ use Rattle.units.specs.Spans.{within, same, on_plane}
 use Rattle.parameters.specs.ParameterSet.{etrs_laea}
 use Rattle.parameters.specs.FieldTheorems.{number_of, wrong}
 use Rattle.parameters.proofs.Fields.{not_none, etrs_accepted, wrong_refused}
-use Rattle.constants.specs.Derived.{constantsOf}
+use Rattle.constants.specs.Derived.{constants_of}
 use Rattle.azimuthal_forward.specs.Answer.{on_globe, plane_told}
 use Rattle.azimuthal_inverse.specs.Steps.{at_origin, on_map}
 use Rattle.units.proofs.Spans.{Between}
@@ -52,10 +52,10 @@ beyond r h =
     let far : pos (2 * nat_abs r) <ℤ pos 4_567_900_000 = omega (order, h.most) in
     second_fails (le_z (neg_ℤ (pos 2 *ℤ r)) (pos 4_567_900_000)) (lt_le_z (subst (λ (x : ℤ). (pos 2 *ℤ x) <ℤ pos 4_567_900_000) h.natural far))
 
-off_map : (dN : ℤ) → on_map (constantsOf etrs_laea) (pos 4_567_900_000) dN ≡ false
+off_map : (dN : ℤ) → on_map (constants_of etrs_laea) (pos 4_567_900_000) dN ≡ false
 unfolding on_map
 off_map dN =
-    let k = constantsOf etrs_laea in
+    let k = constants_of etrs_laea in
     first_fails (within (neg_ℤ (pos 2 *ℤ k.rn)) (pos 2 *ℤ k.rn) dN) (beyond k.rd (sound etrs_laea etrs_accepted).rd_between)
 
 not_origin : at_origin (pos 4_567_900_000) (neg_ℤ (pos 321_000_000)) ≡ false
@@ -69,5 +69,5 @@ inverse_witnesses = (
   ap geodetic_told (inverse_off_plane etrs_laea (pos 5_000_000_001) (pos 0) etrs_accepted beyond_plane),
   ap geodetic_told
       (inverse_on_plane etrs_laea (pos 5_000_000_000) (pos 0) etrs_accepted (on_plane_by (pos 5_000_000_000) (pos 0) (lit≤ tt) (lit≤ tt))
-      ∙ from_off_map etrs_laea (constantsOf etrs_laea) (pos 4_567_900_000) (neg_ℤ (pos 321_000_000)) not_origin (off_map (neg_ℤ (pos 321_000_000)))),
+      ∙ from_off_map etrs_laea (constants_of etrs_laea) (pos 4_567_900_000) (neg_ℤ (pos 321_000_000)) not_origin (off_map (neg_ℤ (pos 321_000_000)))),
 )

@@ -9,12 +9,12 @@ use Rattle.latitudes.specs.Latitude.{latitude, beta}
 use Rattle.parameters.specs.declared.Parameters.{Parameters}
 use Rattle.parameters.specs.ParameterSet.{polar, accepted_e2, set_refusal, etrs_laea}
 use Rattle.parameters.specs.FieldTheorems.{Field, number_of, set_refusals, wrong}
-use Rattle.constants.specs.Derived.{seriesOf, RD, constantsOf}
+use Rattle.constants.specs.Derived.{series_of, RD, constants_of}
 use Rattle.azimuthal_forward.specs.declared.PlaneAnswer.TheVariants.{Plane, Refused}
-use Rattle.azimuthal_forward.specs.Answer.{forwardRefusal, forward_of, plane_told}
+use Rattle.azimuthal_forward.specs.Answer.{forward_refusal, forward_of, plane_told}
 use Rattle.azimuthal_inverse.specs.declared.GeodeticAnswer.TheVariants.{Position, Refused as NotFound}
 use Rattle.azimuthal_inverse.specs.Steps.{on_map}
-use Rattle.azimuthal_inverse.specs.Answer.{inverseRefusal, inverse_of, geodetic_told}
+use Rattle.azimuthal_inverse.specs.Answer.{inverse_refusal, inverse_of, geodetic_told}
 
 -- a latitude as far on the other side of the Equator
 abbrev pub opposite : Geodetic → Geodetic
@@ -61,14 +61,14 @@ abbrev pub EdgeInverse : Type 0
 EdgeInverse =
     (p : Parameters) →
     set_refusal p ≡ 0 →
-    (on_map (constantsOf p) (pos 2 *ℤ RD p) (pos 0) ≡ true)
+    (on_map (constants_of p) (pos 2 *ℤ RD p) (pos 0) ≡ true)
     × (geodetic_told (inverse_of p (p.false_easting +ℤ pos 2 *ℤ RD p) p.false_northing) ≡ refused too_far)
 
 -- ---- β
 
 -- β of the opposite latitude is the opposite of β.
 abbrev pub BetaOdd : Type 0
-BetaOdd = (e2 : ℤ) (φ : Geodetic) → (beta (seriesOf e2) (opposite φ)).0 ≡ neg_ℤ (beta (seriesOf e2) φ).0
+BetaOdd = (e2 : ℤ) (φ : Geodetic) → (beta (series_of e2) (opposite φ)).0 ≡ neg_ℤ (beta (series_of e2) φ).0
 
 -- "β never falls as φ rises."
 abbrev pub BetaNeverFalls : Type 0
@@ -77,14 +77,14 @@ BetaNeverFalls =
     accepted_e2 e2 ≡ true →
     (φ ψ : Geodetic) →
     φ.0 ≤ℤ ψ.0 →
-    (beta (seriesOf e2) φ).0 ≤ℤ (beta (seriesOf e2) ψ).0
+    (beta (series_of e2) φ).0 ≤ℤ (beta (series_of e2) ψ).0
 
 -- β of a pole is the pole.
 abbrev pub BetaPoles : Type 0
 BetaPoles =
     (e2 : ℤ) →
-    ((beta (seriesOf e2) (latitude (pos right_angle))).0 ≡ pos right_angle)
-    × ((beta (seriesOf e2) (latitude (neg_ℤ (pos right_angle)))).0 ≡ neg_ℤ (pos right_angle))
+    ((beta (series_of e2) (latitude (pos right_angle))).0 ≡ pos right_angle)
+    × ((beta (series_of e2) (latitude (neg_ℤ (pos right_angle)))).0 ≡ neg_ℤ (pos right_angle))
 
 -- ---- ranges
 
@@ -107,10 +107,10 @@ abbrev pub whole_refusals : List ℕ
 whole_refusals = set_refusals ++ (out_of_limits ∷ too_far ∷ [])
 
 abbrev pub ForwardNumbers : Type 0
-ForwardNumbers = (p : Parameters) (φ : Geodetic) (lon : ℤ) → OneOf (0 ∷ whole_refusals) (forwardRefusal p φ lon)
+ForwardNumbers = (p : Parameters) (φ : Geodetic) (lon : ℤ) → OneOf (0 ∷ whole_refusals) (forward_refusal p φ lon)
 
 abbrev pub InverseNumbers : Type 0
-InverseNumbers = (p : Parameters) (E N : ℤ) → OneOf (0 ∷ whole_refusals) (inverseRefusal p E N)
+InverseNumbers = (p : Parameters) (E N : ℤ) → OneOf (0 ∷ whole_refusals) (inverse_refusal p E N)
 
 -- The same of the answers: one that is refused carries one of these numbers, so never 0.
 abbrev pub ForwardRefused : Type 0

@@ -10,7 +10,7 @@ use units::MILLIWATT;
 use units::refusals::{POWER_NOT_FINITE, POWER_OUT_OF_LIMITS};
 
 // A power, or the mark that the receiver was overloaded with the last good power; both in milliwatts.
-#[derive(Drop)]
+#[derive(Clone, Copy)]
 pub enum Reading {
     Power(f64),
     Overloaded(f64),

@@ -13,7 +13,7 @@ use Rattle.parameters.specs.declared.Parameters.{Parameters}
 use Rattle.parameters.specs.ParameterSet.{set_refusal}
 use Rattle.azimuthal_forward.specs.declared.PlaneAnswer.TheVariants.{Plane, Refused}
 use Rattle.azimuthal_forward.specs.Steps.{near_enough}
-use Rattle.azimuthal_forward.specs.Answer.{on_globe, nearness, forwardFar, forwardRefusal, eastingOf, northingOf, forward_of}
+use Rattle.azimuthal_forward.specs.Answer.{on_globe, nearness, forward_far, forward_refusal, easting_of, northing_of, forward_of}
 
 -- an answer with two values has the number 0, and they are its values
 pub plane_parts : (n : ℕ) (E N E' N' : ℤ) → answered Refused n (Plane E N) ≡ Plane E' N' → (n ≡ 0) × (E ≡ E') × (N ≡ N')
@@ -27,14 +27,14 @@ pub record AcceptedAnswer (p : Parameters) (φ : Geodetic) (lon E N : ℤ) : Typ
   pub set_accepted : set_refusal p ≡ 0
   pub globe : on_globe φ lon ≡ true
   pub enough : near_enough (nearness p φ lon) ≡ true
-  pub easting : eastingOf p φ lon ≡ E
-  pub northing : northingOf p φ lon ≡ N
+  pub easting : easting_of p φ lon ≡ E
+  pub northing : northing_of p φ lon ≡ N
 
 pub accepted_answer : (p : Parameters) (φ : Geodetic) (lon E N : ℤ) → forward_of p φ lon ≡ Plane E N → AcceptedAnswer p φ lon E N
-unfolding forward_of forwardRefusal forwardFar
+unfolding forward_of forward_refusal forward_far
 accepted_answer p φ lon E N e =
-    let parts = plane_parts (forwardRefusal p φ lon) (eastingOf p φ lon) (northingOf p φ lon) E N e in
-    let chains = both_passed (set_refusal p) (unless (on_globe φ lon) 3 (forwardFar p φ lon)) parts.0 in
+    let parts = plane_parts (forward_refusal p φ lon) (easting_of p φ lon) (northing_of p φ lon) E N e in
+    let chains = both_passed (set_refusal p) (unless (on_globe φ lon) 3 (forward_far p φ lon)) parts.0 in
     let globe = link_passed (on_globe φ lon) 2 chains.1 in
     record {
       set_accepted = chains.0;

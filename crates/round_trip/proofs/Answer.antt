@@ -38,7 +38,7 @@ use Rattle.geodetic_search.specs.Reverse.{geodetic}
 use Rattle.azimuthal_forward.specs.Steps.{H, near_enough}
 use Rattle.azimuthal_inverse.specs.Steps.{X, Y, K, found, at_origin, on_map}
 use Rattle.sphere_points.specs.Sphere.{versine_of, G, up, level, z_of, f_of, point_of, latitude_of, longitude_of}
-use Rattle.azimuthal_inverse.specs.Answer.{answerFrom}
+use Rattle.azimuthal_inverse.specs.Answer.{answer_from}
 use Rattle.units.proofs.Spans.{Between, same_equal, wrapped_low, wrapped_high, wrapped_between}
 use Rattle.integers.proofs.Greatest.{both}
 use Rattle.constants.proofs.ConstantsLaws.{Sound}
@@ -63,7 +63,7 @@ pub record Answer (p : Parameters) (k : Constants) (dE dN : ℤ) : Type 0 where
   pub β' : ℤ
   pub Δ' : ℤ
   pub turns : ℤ
-  pub position_is : answerFrom p k dE dN ≡ Position φ' lon'
+  pub position_is : answer_from p k dE dN ≡ Position φ' lon'
   pub β'_size : nat_abs β' ≤ right_angle
   pub latitude : Sector (pos (radius (found k dE dN))) (found k dE dN).z β'
   pub longitude : Sector (found k dE dN).f (found k dE dN).east Δ'

@@ -16,9 +16,9 @@ use Rattle.latitudes.specs.declared.Geodetic.{Geodetic}
 use Rattle.latitudes.specs.Latitude.{terms, rounded, beta}
 use Rattle.parameters.specs.declared.Parameters.{Parameters}
 use Rattle.parameters.specs.ParameterSet.{polar, accepted_a, accepted_e2, accepted_lat0, accepted_lon0, accepted_false, set_refusal}
-use Rattle.constants.specs.Derived.{to_mas, e4, e6, k2, k4, k6, seriesOf, β0, S0, C0, constantsOf}
+use Rattle.constants.specs.Derived.{to_mas, e4, e6, k2, k4, k6, series_of, β0, S0, C0, constants_of}
 use Rattle.azimuthal_forward.specs.Steps.{b, c, v, G, near_enough}
-use Rattle.azimuthal_forward.specs.Answer.{on_globe, nearness, eastingOf, northingOf}
+use Rattle.azimuthal_forward.specs.Answer.{on_globe, nearness, easting_of, northing_of}
 use Rattle.azimuthal_forward.proofs.AnswerLaws.{forward_plane}
 use Rattle.round_trip.specs.RoundTrip.{farthest_latitude, least_nearness, Conditions}
 use Rattle.round_trip.specs.ConditionTheorems.{AtEach, ConditionsMet}
@@ -34,8 +34,8 @@ met p φ lon equator passes =
     let near_centre : pos least_nearness ≤ℤ nearness p φ lon = le_z_true (pos least_nearness) (nearness p φ lon) passes.2 in
     let enough : pos 20_000_000 ≤ℤ nearness p φ lon = ≤ℤ-trans {y = pos least_nearness} (omega order) near_centre in
     record {
-      easting = eastingOf p φ lon;
-      northing = northingOf p φ lon;
+      easting = easting_of p φ lon;
+      northing = northing_of p φ lon;
       set_accepted = passes.0;
       from_equator = equator;
       forward_is = forward_plane p φ lon passes.0 passes.1 (le_le_z {x = pos 20_000_000} {y = nearness p φ lon} enough);
@@ -45,7 +45,7 @@ met p φ lon equator passes =
 -- the examples pass the tests
 computed : AtEach Passes
 unfolding within same polar accepted_a accepted_e2 accepted_lat0 accepted_lon0 accepted_false set_refusal on_globe nearness G b c v
-    constantsOf S0 C0 β0 seriesOf k2 k4 k6 e4 e6 to_mas beta rounded terms
+    constants_of S0 C0 β0 series_of k2 k4 k6 e4 e6 to_mas beta rounded terms
     near nearest entry between first_quarter first_half one_turn sine cosine
 computed = ((refl, refl, refl), (refl, refl, refl), (refl, refl, refl), (refl, refl, refl), (refl, refl, refl))
 

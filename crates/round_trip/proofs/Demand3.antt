@@ -19,12 +19,12 @@ use Rattle.parameters.specs.declared.Parameters.{Parameters}
 use Rattle.azimuthal_inverse.specs.declared.GeodeticAnswer.{GeodeticAnswer}
 use Rattle.units.specs.Spans.{within, on_plane}
 use Rattle.parameters.specs.ParameterSet.{set_refusal}
-use Rattle.constants.specs.Derived.{β0, S0, C0, constantsOf}
+use Rattle.constants.specs.Derived.{β0, S0, C0, constants_of}
 use Rattle.azimuthal_forward.specs.Steps.{c, dE, dN, near_enough}
-use Rattle.azimuthal_forward.specs.Answer.{nearness, eastingOf, northingOf, forward_of}
+use Rattle.azimuthal_forward.specs.Answer.{nearness, easting_of, northing_of, forward_of}
 use Rattle.azimuthal_inverse.specs.Steps.{K, on_map}
 use Rattle.sphere_points.specs.Sphere.{G as G'}
-use Rattle.azimuthal_inverse.specs.Answer.{answerFrom, inverse_of}
+use Rattle.azimuthal_inverse.specs.Answer.{answer_from, inverse_of}
 use Rattle.units.proofs.Spans.{Between, size_inside}
 use Rattle.parameters.proofs.AcceptedSet.{accepted_fields, lat0_size}
 use Rattle.constants.proofs.ConstantsLaws.{sound}
@@ -41,7 +41,7 @@ use Rattle.round_trip.proofs.Angles.{latitude_bound, longitude_bound}
 
 module _ (p : Parameters) (φ : Geodetic) (lon : ℤ) where
   abbrev k : Constants
-  k = constantsOf p
+  k = constants_of p
 
   abbrev Δ : ℤ
   Δ = lon -ℤ p.lon0
@@ -56,7 +56,7 @@ module _ (p : Parameters) (φ : Geodetic) (lon : ℤ) where
 
   -- S0 and C0 are those of φ0
   centred : set_refusal p ≡ 0 → Centred p k
-  unfolding constantsOf S0 C0 β0
+  unfolding constants_of S0 C0 β0
   centred ok = record { s0_is = refl; c0_is = refl; lat0_most = lat0_size p.lat0 (accepted_fields p ok).lat0_accepted }
 
   -- what the steps ask
@@ -88,19 +88,19 @@ module _ (p : Parameters) (φ : Geodetic) (lon : ℤ) where
   less_origin f d z e = ap (λ (x : ℤ). x -ℤ f) (sym e) ∙ ring (f ∷ d ∷ []) (search quote depth 40 fits 20000) tt
 
   -- so it takes the steps from the shifts
-  inverse_is : (E N : ℤ) → AcceptedAnswer p φ lon E N → on_plane E N ≡ true → inverse_of p E N ≡ answerFrom p k eastward northward
-  unfolding eastingOf northingOf
+  inverse_is : (E N : ℤ) → AcceptedAnswer p φ lon E N → on_plane E N ≡ true → inverse_of p E N ≡ answer_from p k eastward northward
+  unfolding easting_of northing_of
   inverse_is E N there plane =
       inverse_on_plane p E N there.set_accepted plane
-      ∙ ap₂ (answerFrom p k)
+      ∙ ap₂ (answer_from p k)
       (less_origin p.false_easting eastward E there.easting) (less_origin p.false_northing northward N there.northing)
 
   -- ---- the round trip
 
   -- an answer for the shifts is close to the position
-  close_answer : (g : Given k φ Δ) → Answer p k eastward northward → (result : GeodeticAnswer) → result ≡ answerFrom p k eastward northward →
+  close_answer : (g : Given k φ Δ) → Answer p k eastward northward → (result : GeodeticAnswer) → result ≡ answer_from p k eastward northward →
       CloseTo sharp_latitude_bound sharp_gap_halves 2 p φ lon result
-  unfolding longitude_gap constantsOf c
+  unfolding longitude_gap constants_of c
   close_answer g a result e =
       record {
         φ' = a.φ';

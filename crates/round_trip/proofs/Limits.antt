@@ -26,9 +26,9 @@ use Rattle.units.specs.Spans.{within, on_plane}
 use Rattle.units.proofs.Spans.{size_inside}
 use Rattle.parameters.specs.ParameterSet.{set_refusal}
 use Rattle.latitudes.specs.Latitude.{beta}
-use Rattle.constants.specs.Derived.{β0, S0, C0, constantsOf}
+use Rattle.constants.specs.Derived.{β0, S0, C0, constants_of}
 use Rattle.azimuthal_forward.specs.Steps.{H, b, c, u, v, w, G, dE, dN, near_enough}
-use Rattle.azimuthal_forward.specs.Answer.{nearness, eastingOf, northingOf}
+use Rattle.azimuthal_forward.specs.Answer.{nearness, easting_of, northing_of}
 use Rattle.parameters.proofs.AcceptedSet.{accepted_fields}
 use Rattle.constants.proofs.ConstantsLaws.{Sound, sound}
 use Rattle.azimuthal_forward.proofs.ForwardLaws.{b_size, c_size, u_size, v_size, w_size, sum_size, H-least}
@@ -89,8 +89,8 @@ shift R x H H-least R-most x-most =
 -- ---- the forward steps
 
 -- S0 and C0 are the sine and cosine of one angle
-pub circle_of : (p : Parameters) → OnCircle (constantsOf p).s0 (constantsOf p).c0
-unfolding constantsOf S0 C0
+pub circle_of : (p : Parameters) → OnCircle (constants_of p).s0 (constants_of p).c0
+unfolding constants_of S0 C0
 circle_of p = near_circle (β0 p.e2 p.lat0).0
 
 module _ (k : Constants) (sound-k : Sound k) (centre : OnCircle k.s0 k.c0) (φ : Geodetic) (Δ : ℤ) (enough : pos 20_000_000 ≤ℤ G k φ Δ) where
@@ -147,10 +147,10 @@ coordinate F d F-most d-most = size_inside 5_000_000_000 (F +ℤ d) (le_trans (a
 
 -- the easting and the northing that the steps compute
 steps_on_plane : (p : Parameters) (φ : Geodetic) (lon : ℤ) → set_refusal p ≡ 0 → near_enough (nearness p φ lon) ≡ true →
-    on_plane (eastingOf p φ lon) (northingOf p φ lon) ≡ true
-unfolding on_plane near_enough nearness eastingOf northingOf
+    on_plane (easting_of p φ lon) (northing_of p φ lon) ≡ true
+unfolding on_plane near_enough nearness easting_of northing_of
 steps_on_plane p φ lon ok enough =
-    let k : Constants = constantsOf p in
+    let k : Constants = constants_of p in
     let Δ : ℤ = lon -ℤ p.lon0 in
     let least : pos 20_000_000 ≤ℤ G k φ Δ = le_z_true (pos 20_000_000) (G k φ Δ) enough in
     ap₂ ◌&&◌

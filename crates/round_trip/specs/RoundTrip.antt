@@ -6,7 +6,7 @@ use Rattle.latitudes.specs.declared.Geodetic.{Geodetic}
 use Rattle.latitudes.specs.Latitude.{beta}
 use Rattle.parameters.specs.declared.Parameters.{Parameters}
 use Rattle.parameters.specs.ParameterSet.{set_refusal}
-use Rattle.constants.specs.Derived.{seriesOf}
+use Rattle.constants.specs.Derived.{series_of}
 use Rattle.azimuthal_forward.specs.declared.PlaneAnswer.{PlaneAnswer}
 use Rattle.azimuthal_forward.specs.declared.PlaneAnswer.TheVariants.{Plane, Refused}
 use Rattle.azimuthal_forward.specs.Answer.{nearness, forward_of}
@@ -22,7 +22,7 @@ turn_gap d = min (nat_abs d % full_turn) (full_turn - nat_abs d % full_turn)
 
 -- The longitude gap (a term of document 01) at a geodetic latitude, times U: "times cosine(β)/U, with the set's β of φ .. The product is not rounded."
 unfoldable pub longitude_gap : Parameters → Geodetic → ℤ → ℤ → ℤ
-longitude_gap p φ lon lon' = pos (turn_gap (lon' -ℤ lon)) *ℤ cosine (beta (seriesOf p.e2) φ).0
+longitude_gap p φ lon lon' = pos (turn_gap (lon' -ℤ lon)) *ℤ cosine (beta (series_of p.e2) φ).0
 
 -- ---- the numbers of demand 3
 

@@ -19,7 +19,7 @@ const SUM_MOST: u64 = 0xffff_ffff_ffff_ffff;
 
 // A cell of a control loop: the loop's number, and the cell's numbers along the two axes. Cells of two loops are two cells.
 #[repr(C)]
-#[derive(Drop)]
+#[derive(Clone, Copy)]
 pub struct LoopCell {
     pub loop_number: u64,
     pub east: i64,
@@ -28,7 +28,7 @@ pub struct LoopCell {
 
 // Every bit pattern is a value of every field.
 #[repr(C)]
-#[derive(Drop)]
+#[derive(Clone, Copy)]
 pub struct Slot {
     // the cell that has the slot; its loop number is 0 where the slot is free
     pub cell: LoopCell,

@@ -26,7 +26,7 @@ const TWO_UNITS_DIVISOR: u64 = 2_000_000_000;
 
 // A point of the unit sphere in billionths, by document 01's names: east of the centre's meridian,
 // z along the axis, f outwards at the centre's longitude.
-#[derive(Drop)]
+#[derive(Clone, Copy)]
 pub struct SpherePoint {
     pub east: i64,
     pub z: i64,

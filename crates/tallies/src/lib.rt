@@ -20,14 +20,14 @@ pub struct Tally {
 }
 
 // What making a tally, adding to it and clearing a cell answer.
-#[derive(Drop)]
+#[derive(Clone, Copy)]
 pub enum TallyAnswer {
     Done,
     Refused(u8),
 }
 
 // What reading a cell answers: the sum in nanowatts, and how many readings of each kind it has.
-#[derive(Drop)]
+#[derive(Clone, Copy)]
 pub enum SumsAnswer {
     Sums {
         sum: u64,

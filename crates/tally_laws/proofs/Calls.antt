@@ -134,6 +134,7 @@ numbers_refused side east north some = the_other g.one
     the_other : OneOf (0 ∷ out_of_limits ∷ []) (numbers_refusal side east north) → numbers_refusal side east north ≡ out_of_limits
     the_other (inl e) = absurd (some e)
     the_other (inr (inl e)) = e
+    the_other (inr (inr x)) = elim x [ ]
 
 pub other_cells_refused : OtherCellsRefused
 unfolding named_refusal

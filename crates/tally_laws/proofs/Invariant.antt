@@ -88,8 +88,8 @@ module _ {side : ℤ} {tally : Tally} {rs : LoopCell → List Reading} {cells : 
     abbrev loop : ℕ
     loop = cell.loop_number
 
-    abbrev next-cells : ℕ → List LoopCell
-    next-cells other = cond (eqb loop other) (new-cells other) (cells other)
+    abbrev next_cells : ℕ → List LoopCell
+    next_cells other = cond (eqb loop other) (new-cells other) (cells other)
 
     -- the call's changes, each as the callee states it
     record Changed : Type 0 where
@@ -101,68 +101,68 @@ module _ {side : ℤ} {tally : Tally} {rs : LoopCell → List Reading} {cells : 
       now_held : bit (holds cell slot) ≡ some_of (new cell)
       by_rule : (some_of (new cell) ≤ passing (holds cell) tally.slots) ⊎ (granted (held_in tally.slots) loop ≡ true)
 
-    own_list : next-cells loop ≡ new-cells loop
+    own_list : next_cells loop ≡ new-cells loop
     own_list = rw (eq-eqb loop loop refl)
 
-    other_lists : (other : ℕ) → eqb loop other ≡ false → next-cells other ≡ cells other
+    other_lists : (other : ℕ) → eqb loop other ≡ false → next_cells other ≡ cells other
     other_lists other e = rw e
 
     module _ (c : Changed) where
       -- how much longer the loop's list is
-      longer : sizes next-cells loop + passing (holds cell) tally.slots ≡ sizes cells loop + some_of (new cell)
+      longer : sizes next_cells loop + passing (holds cell) tally.slots ≡ sizes cells loop + some_of (new cell)
       longer = rw own_list (omega (arith, c.relisted.size, (k.each cell).held, (k.each cell).listed))
 
-      new_sized : (other : ℕ) → (other ≡ 0 → ⊥) → held_in next.slots other ≡ sizes next-cells other
+      new_sized : (other : ℕ) → (other ≡ 0 → ⊥) → held_in next.slots other ≡ sizes next_cells other
       new_sized other some = at (eqb loop other) refl
         where
-          at : (t : Bool) → eqb loop other ≡ t → held_in next.slots other ≡ sizes next-cells other
+          at : (t : Bool) → eqb loop other ≡ t → held_in next.slots other ≡ sizes next_cells other
           at true e =
               let own = c.placed.own_held (loop_some c.ok) in
-              let same : held_in next.slots loop ≡ sizes next-cells loop = omega (arith, own, longer, c.now_held, k.sized loop (loop_some c.ok)) in
-              subst (λ (n : ℕ). held_in next.slots n ≡ sizes next-cells n) (eqb-true loop other e) same
+              let same : held_in next.slots loop ≡ sizes next_cells loop = omega (arith, own, longer, c.now_held, k.sized loop (loop_some c.ok)) in
+              subst (λ (n : ℕ). held_in next.slots n ≡ sizes next_cells n) (eqb-true loop other e) same
           at false e = c.placed.others_held other some e ∙ k.sized other some ∙ ap length (sym (other_lists other e))
 
-      same_sizes : (other : ℕ) → eqb loop other ≡ false → sizes next-cells other ≡ sizes cells other
+      same_sizes : (other : ℕ) → eqb loop other ≡ false → sizes next_cells other ≡ sizes cells other
       same_sizes other e = ap length (other_lists other e)
 
-      new_all : (sizes next-cells 1 + sizes next-cells 2) + passing free next.slots ≡ slot_count
+      new_all : (sizes next_cells 1 + sizes next_cells 2) + passing free next.slots ≡ slot_count
       new_all =
-          let total = both_changed (sizes cells) (sizes next-cells) loop c.ok same_sizes (some_of (new cell)) (passing (holds cell) tally.slots) longer in
+          let total = both_changed (sizes cells) (sizes next_cells) loop c.ok same_sizes (some_of (new cell)) (passing (holds cell) tally.slots) longer in
           omega (arith, total, c.placed.frees, c.now_held, k.all)
 
-      new_few : beyond (sizes next-cells) ≤ shared_slots
-      new_few = within_rule (sizes cells) (sizes next-cells) loop c.ok same_sizes k.few (at c.by_rule)
+      new_few : beyond (sizes next_cells) ≤ shared_slots
+      new_few = within_rule (sizes cells) (sizes next_cells) loop c.ok same_sizes k.few (at c.by_rule)
         where
           at : (some_of (new cell) ≤ passing (holds cell) tally.slots) ⊎ (granted (held_in tally.slots) loop ≡ true) →
-              (sizes next-cells loop ≤ sizes cells loop)
-              ⊎ ((sizes next-cells loop ≤ suc (sizes cells loop)) × (granted (sizes cells) loop ≡ true))
+              (sizes next_cells loop ≤ sizes cells loop)
+              ⊎ ((sizes next_cells loop ≤ suc (sizes cells loop)) × (granted (sizes cells) loop ≡ true))
           at (inl h) = inl (omega (arith, longer))
           at (inr g) = inr (omega (arith, longer, some_most (new cell)), sym (granted_listed loop c.ok) ∙ g)
 
       own : Each next.slots (new cell) (new-cells loop) cell
       own = record { held = c.placed.own ∙ c.now_held; listed = c.relisted.own; holding = rw c.placed.own_slot c.now_holding }
 
-      other_listed : (other : LoopCell) → same_cell cell other ≡ false → passing (is other) (next-cells other.loop_number) ≡ some_of (rs other)
+      other_listed : (other : LoopCell) → same_cell cell other ≡ false → passing (is other) (next_cells other.loop_number) ≡ some_of (rs other)
       other_listed other e = at (eqb loop other.loop_number) refl ∙ (k.each other).listed
         where
           at : (t : Bool) → eqb loop other.loop_number ≡ t →
-              passing (is other) (next-cells other.loop_number) ≡ passing (is other) (cells other.loop_number)
+              passing (is other) (next_cells other.loop_number) ≡ passing (is other) (cells other.loop_number)
           at true same =
-              subst (λ (n : ℕ). passing (is other) (next-cells n) ≡ passing (is other) (cells n)) (eqb-true loop other.loop_number same)
+              subst (λ (n : ℕ). passing (is other) (next_cells n) ≡ passing (is other) (cells n)) (eqb-true loop other.loop_number same)
               (rw own_list (c.relisted.others other e))
           at false differs = ap (passing (is other)) (other_lists other.loop_number differs)
 
       new_each :
           (other : LoopCell) →
-          Each next.slots (cond (same_cell cell other) (new other) (rs other)) (next-cells other.loop_number) other
+          Each next.slots (cond (same_cell cell other) (new other) (rs other)) (next_cells other.loop_number) other
       new_each other = at (same_cell cell other) refl
         where
           at :
               (t : Bool) →
               same_cell cell other ≡ t →
-              Each next.slots (cond (same_cell cell other) (new other) (rs other)) (next-cells other.loop_number) other
+              Each next.slots (cond (same_cell cell other) (new other) (rs other)) (next_cells other.loop_number) other
           at true e =
-              rw e (subst (λ (c : LoopCell). Each next.slots (new c) (next-cells c.loop_number) c) (cell_equal cell other e) (rw own_list own))
+              rw e (subst (λ (c : LoopCell). Each next.slots (new c) (next_cells c.loop_number) c) (cell_equal cell other e) (rw own_list own))
           at false e =
               rw e (record {
                 held = c.placed.others other e ∙ (k.each other).held;
@@ -170,7 +170,7 @@ module _ {side : ℤ} {tally : Tally} {rs : LoopCell → List Reading} {cells : 
                 holding = rw (c.placed.other_slots other e) (k.each other).holding;
               })
 
-      changed : Kept side next (λ other. cond (same_cell cell other) (new other) (rs other)) next-cells
+      changed : Kept side next (λ other. cond (same_cell cell other) (new other) (rs other)) next_cells
       changed = record { side_is = c.side_kept ∙ k.side_is; sized = new_sized; all = new_all; few = new_few; each = new_each }
 
   add_kept : (cell : LoopCell) (r : Reading) → number_of tally (adding cell r) ≡ 0 →

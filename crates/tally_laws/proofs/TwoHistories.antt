@@ -135,11 +135,11 @@ module _ (side : ℤ) (loop : ℕ) (one two : List Call)
     abbrev past_two : List Answered
     past_two = history (empty_tally side) two
 
-    abbrev tally-one : Tally
-    tally-one = after_all (empty_tally side) one
+    abbrev tally_one : Tally
+    tally_one = after_all (empty_tally side) one
 
-    abbrev tally-two : Tally
-    tally-two = after_all (empty_tally side) two
+    abbrev tally_two : Tally
+    tally_two = after_all (empty_tally side) two
 
     -- a step that leaves all as it is at every call but the loop's accepted ones
     same_folded : {A : Type 0} (step : Call → ℕ → A → A) →
@@ -155,23 +155,23 @@ module _ (side : ℤ) (loop : ℕ) (one two : List Call)
     same_cells : cells_of loop past_one ≡ cells_of loop past_two
     same_cells = same_folded (cells_with loop) (not_listed loop) []
 
-    same_reads : (cell : LoopCell) → cell.loop_number ≡ loop → (read_from tally-one cell).answer ≡ (read_from tally-two cell).answer
+    same_reads : (cell : LoopCell) → cell.loop_number ≡ loop → (read_from tally_one cell).answer ≡ (read_from tally_two cell).answer
     same_reads cell own =
         read_decided (from_start side one) cell
         ∙ ap (λ (rs : List Reading). answered Unread (named_refusal side cell) (Sums (sum_of rs) (count_of rs) (overloads_of rs))) (same_readings cell own)
         ∙ sym (read_decided (from_start side two) cell)
 
-    same_clears : (cell : LoopCell) → answer_of tally-one (clearing cell) ≡ answer_of tally-two (clearing cell)
+    same_clears : (cell : LoopCell) → answer_of tally_one (clearing cell) ≡ answer_of tally_two (clearing cell)
     same_clears cell = clear_decided (from_start side one) cell ∙ sym (clear_decided (from_start side two) cell)
 
     -- an add is answered by its number
-    by_number : (cell : LoopCell) (r : Reading) → number_of tally-one (adding cell r) ≡ number_of tally-two (adding cell r) →
-        answer_of tally-one (adding cell r) ≡ answer_of tally-two (adding cell r)
-    by_number cell r e = answer_is tally-one cell r ∙ ap (λ (n : ℕ). changing (answered Refused n Done)) e ∙ sym (answer_is tally-two cell r)
+    by_number : (cell : LoopCell) (r : Reading) → number_of tally_one (adding cell r) ≡ number_of tally_two (adding cell r) →
+        answer_of tally_one (adding cell r) ≡ answer_of tally_two (adding cell r)
+    by_number cell r e = answer_is tally_one cell r ∙ ap (λ (n : ℕ). changing (answered Refused n Done)) e ∙ sym (answer_is tally_two cell r)
 
     -- the second number over the first's readings
     second_told : (cell : LoopCell) (r : Reading) → cell.loop_number ≡ loop →
-        number_of tally-two (adding cell r)
+        number_of tally_two (adding cell r)
         ≡ first_refusal (named_refusal side cell)
         (first_refusal (reading_refusal r) (last_tests (length (readings_of cell past_one)) (held_by past_two) cell.loop_number))
     second_told cell r own = add_told (from_start side two) cell r ∙ rw (same_readings cell own)
@@ -179,9 +179,9 @@ module _ (side : ℤ) (loop : ℕ) (one two : List Call)
     same_answers :
         (call : Call) →
         loop_in call ≡ loop →
-        (number_of tally-one call ≡ no_new_slot → ⊥) →
-        (number_of tally-two call ≡ no_new_slot → ⊥) →
-        answer_of tally-one call ≡ answer_of tally-two call
+        (number_of tally_one call ≡ no_new_slot → ⊥) →
+        (number_of tally_two call ≡ no_new_slot → ⊥) →
+        answer_of tally_one call ≡ answer_of tally_two call
     same_answers (adding cell r) own f s =
         let first = add_told (from_start side one) cell r in
         let second = second_told cell r own in
@@ -194,7 +194,7 @@ module _ (side : ℤ) (loop : ℕ) (one two : List Call)
     same_answers (clearing cell) own f s = same_clears cell
     same_answers (reading cell) own f s = ap telling (same_reads cell own)
 
-    same_refused : (call : Call) → loop_in call ≡ loop → number_of tally-one call ≡ no_new_slot → OneOf (0 ∷ no_new_slot ∷ []) (number_of tally-two call)
+    same_refused : (call : Call) → loop_in call ≡ loop → number_of tally_one call ≡ no_new_slot → OneOf (0 ∷ no_new_slot ∷ []) (number_of tally_two call)
     same_refused (adding cell r) own e =
         let n : ℕ = length (readings_of cell past_one) in
         rw (second_told cell r own)
@@ -203,9 +203,9 @@ module _ (side : ℤ) (loop : ℕ) (one two : List Call)
     same_refused (clearing cell) own e = inr (inl (sym (ap number_in (same_clears cell)) ∙ e))
     same_refused (reading cell) own e = inr (inl (sym (ap (λ (a : SumsAnswer). (sums_told a).refusal) (same_reads cell own)) ∙ e))
 
-    module _ (equal : held_in tally-one.slots (other_loop loop) ≡ held_in tally-two.slots (other_loop loop)) where
+    module _ (equal : held_in tally_one.slots (other_loop loop) ≡ held_in tally_two.slots (other_loop loop)) where
       -- by the lists
-      same_held : (other : ℕ) → (other ≡ 0 → ⊥) → held_in tally-one.slots other ≡ held_in tally-two.slots other → held_by past_one other ≡ held_by past_two other
+      same_held : (other : ℕ) → (other ≡ 0 → ⊥) → held_in tally_one.slots other ≡ held_in tally_two.slots other → held_by past_one other ≡ held_by past_two other
       same_held other some e = sym ((from_start side one).sized other some) ∙ e ∙ (from_start side two).sized other some
 
       same_granted : is_loop loop ≡ true → granted (held_by past_one) loop ≡ granted (held_by past_two) loop
@@ -220,17 +220,17 @@ module _ (side : ℤ) (loop : ℕ) (one two : List Call)
           at (inr e) =
               granted_same (held_by past_one) loop (held_by past_two) own (same_held 1 (λ z. omega arith) (rw e at equal)) (rw e at own)
 
-      same_numbers : (cell : LoopCell) (r : Reading) → cell.loop_number ≡ loop → number_of tally-one (adding cell r) ≡ number_of tally-two (adding cell r)
+      same_numbers : (cell : LoopCell) (r : Reading) → cell.loop_number ≡ loop → number_of tally_one (adding cell r) ≡ number_of tally_two (adding cell r)
       same_numbers cell r own = at (is_loop cell.loop_number) refl
         where
-          at : (t : Bool) → is_loop cell.loop_number ≡ t → number_of tally-one (adding cell r) ≡ number_of tally-two (adding cell r)
+          at : (t : Bool) → is_loop cell.loop_number ≡ t → number_of tally_one (adding cell r) ≡ number_of tally_two (adding cell r)
           at true ok =
               let new = subst (λ (n : ℕ). granted (held_by past_one) n ≡ granted (held_by past_two) n) (sym own) (same_granted (sym (ap is_loop own) ∙ ok)) in
               add_told (from_start side one) cell r ∙ rw new (sym (second_told cell r own))
           at false bad =
-              (other_loops_refused tally-one (adding cell r) bad).0 ∙ sym (other_loops_refused tally-two (adding cell r) bad).0
+              (other_loops_refused tally_one (adding cell r) bad).0 ∙ sym (other_loops_refused tally_two (adding cell r) bad).0
 
-      same_answers_all : (call : Call) → loop_in call ≡ loop → answer_of tally-one call ≡ answer_of tally-two call
+      same_answers_all : (call : Call) → loop_in call ≡ loop → answer_of tally_one call ≡ answer_of tally_two call
       same_answers_all (adding cell r) own = by_number cell r (same_numbers cell r own)
       same_answers_all (clearing cell) own = same_clears cell
       same_answers_all (reading cell) own = ap telling (same_reads cell own)

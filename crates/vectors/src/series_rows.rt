@@ -5,7 +5,7 @@ ghost use Rattle.sine_table.specs.Table.{IsTable};
 ghost use Rattle.units.specs.Units.{right_angle};
 ghost use Rattle.parameters.specs.ParameterSet.{accepted_e2};
 ghost use Rattle.geodetic_search.specs.Reverse.{geodetic};
-ghost use Rattle.constants.specs.Derived.{seriesOf};
+ghost use Rattle.constants.specs.Derived.{series_of};
 ghost use Rattle.vectors.specs.InnerSeries.{series_gap, most_mas};
 
 use crate::rows::set;
@@ -25,7 +25,7 @@ const MOST: u64 = 2;
 // The latitude of the inverse steps for an e2, whatever else is in the set.
 fn steps(t: &Table, e2: i64, beta: Authalic) -> Geodetic
     requires { IsTable t.now × (accepted_e2 e2 ≡ true) × (nat_abs beta.0 ≤ right_angle) }
-    ensures { result ≡ geodetic (seriesOf e2) beta }
+    ensures { result ≡ geodetic (series_of e2) beta }
 {
     let k = constants_of(t, set(637_813_700, e2, 0, 0, 0, 0));
     let series = k.series;

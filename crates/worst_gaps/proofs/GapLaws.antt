@@ -12,7 +12,7 @@ use Rattle.latitudes.specs.declared.Geodetic.{Geodetic}
 use Rattle.latitudes.specs.Latitude.{beta}
 use Rattle.parameters.specs.declared.Parameters.{Parameters}
 use Rattle.constants.specs.declared.Constants.{Constants}
-use Rattle.constants.specs.Derived.{seriesOf, constantsOf}
+use Rattle.constants.specs.Derived.{series_of, constants_of}
 use Rattle.round_trip.specs.RoundTrip.{turn_gap, longitude_gap}
 
 pub far_gap : (d : ℤ) → nat_abs d ≤ full_turn → half_turn < nat_abs d → full_turn - nat_abs d ≡ turn_gap d
@@ -28,9 +28,9 @@ unfolding turn_gap
 gap_most d = omega arith
 
 -- the longitude gap is the turn gap times a cosine, with the coefficients that the set has
-pub weighted : (p : Parameters) (k : Constants) (φ : Geodetic) (lon lon' : ℤ) → k ≡ constantsOf p →
+pub weighted : (p : Parameters) (k : Constants) (φ : Geodetic) (lon lon' : ℤ) → k ≡ constants_of p →
     turn_gap (lon' -ℤ lon) * nat_abs (cosine (beta k.series φ).0) ≡ nat_abs (longitude_gap p φ lon lon')
-unfolding longitude_gap constantsOf
+unfolding longitude_gap constants_of
 weighted p k φ lon lon' e =
     ap (λ (c : Constants). turn_gap (lon' -ℤ lon) * nat_abs (cosine (beta c.series φ).0)) e
-    ∙ sym (abs_mul (pos (turn_gap (lon' -ℤ lon))) (cosine (beta (seriesOf p.e2) φ).0))
+    ∙ sym (abs_mul (pos (turn_gap (lon' -ℤ lon))) (cosine (beta (series_of p.e2) φ).0))

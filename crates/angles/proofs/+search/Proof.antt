@@ -19,19 +19,19 @@ abbrev μ : Measures 1 kinds.ps ℕ
 -- the start of the function
 abbrev start :
     {claims : lts.Claims} {Pre : In 1 kinds.ps} {Post : Out 1 kinds.ps kinds.r} →
-    lts.After-is-under claims Pre Post →
+    lts.After-is_under claims Pre Post →
     lts.Start claims Pre Post
 start c = c.before.before
 
 -- the answer where one is left, the two differences, the test of the middle, the two halves and their answers
-pub +search-spec : {M : Type 1} → statement M
-+search-spec = close μ λ t. lts.spec (_, is-under.Learnt, _, search'.Post) _ search'.Post
-    (λ c. one_is_left c.before.requires c.if1.true)
+pub +search_spec : {M : Type 1} → statement M
++search_spec = close μ λ t. lts.spec (_, is-under.Learnt, _, search'.Post) _ search'.Post
+    (λ c. one_is_left c.before.requires c.if-low-high.true)
     (λ c. c.before.requires.1.1.ordered)
     (λ c. half_fits c.before.requires)
     (λ c κs. middle_asked c.before.requires)
-    (λ c κs. upper_asked (start c.before).pre c.before.is-under.ensures c.before.before.if1.false c.if2.true)
-    (λ c. middle_some (start c.before).pre c.before.is-under.ensures c.if2.false)
-    (λ c κs. lower_asked (start c.before).pre c.before.is-under.ensures c.if2.false)
+    (λ c κs. upper_asked (start c.before).requires c.before.is_under.ensures c.before.before.if-low-high.false c.if-is_under.true)
+    (λ c. middle_some (start c.before).requires c.before.is_under.ensures c.if-is_under.false)
+    (λ c κs. lower_asked (start c.before).requires c.before.is_under.ensures c.if-is_under.false)
     (λ c. c.search.ensures)
-    (λ c. let b = c.before.before in c.search2.ensures ∙ lower_same (start b).requires b.is-under.ensures c.before.if2.false under_threshold)
+    (λ c. let b = c.before.before in c.search-else-is_under.ensures ∙ lower_same (start b).requires b.is_under.ensures c.before.if-is_under.false under_threshold)

@@ -21,31 +21,25 @@ use Rattle.angles.proofs.+search_near.Tie.{close}
 abbrev μ : Measures 1 kinds.ps ℕ
 μ κs a = right_angle - a.1.1.1.1.0
 
--- the start of the function, and what the calls of `excess` told
-module _ {claims : lts.Claims} {Pre : In 1 kinds.ps} {Post : Out 1 kinds.ps kinds.r} (c : lts.After-is-bracketed claims Pre Post) where
+-- the start of the function
+module _ {claims : lts.Claims} {Pre : In 1 kinds.ps} {Post : Out 1 kinds.ps kinds.r} (c : lts.After-is_bracketed claims Pre Post) where
   abbrev start : lts.Start claims Pre Post
   start = c.before.before.before
 
-  abbrev low : lts.After-excess·own claims Pre Post start
-  low = c.before.before.excess
-
-  abbrev rest : lts.After-excess2·own claims Pre Post c.before.before
-  rest = c.before.excess2
-
 -- the ends of the span, whether it holds the greatest, the search of it and its answer, the wider margin and its answer
-pub +search-near-spec : {M : Type 1} → statement M
-+search-near-spec = close μ λ t. lts.spec (_, excess.Learnt, _, is-bracketed.Learnt, _, search'.Learnt, _, search-near.Post) _ search-near.Post
+pub +search_near_spec : {M : Type 1} → statement M
++search_near_spec = close μ λ t. lts.spec (_, excess.Learnt, _, is-bracketed.Learnt, _, search'.Learnt, _, search-near.Post) _ search-near.Post
     (λ c κs. tt)
     (λ c. omega arith)
     (λ c κs. tt)
     (λ c. omega arith)
-    (λ c κs. ends_asked c.before.before.requires c.before.excess.ensures c.excess2.ensures)
-    (λ c κs. (held (start c.before).pre under_threshold c.before.is-bracketed.ensures (omega arith) c.if1.true).0)
+    (λ c κs. ends_asked c.before.before.requires c.before.excess-low.ensures c.excess-high.ensures)
+    (λ c κs. (held (start c.before).requires under_threshold c.before.is_bracketed.ensures (omega arith) c.if-is_bracketed.true).0)
     (λ c. let b = c.before.before in
-    c.search.ensures ∙ (held (start b).requires under_threshold b.is-bracketed.ensures (omega arith) c.before.if1.true).1)
+    c.search.ensures ∙ (held (start b).requires under_threshold b.is_bracketed.ensures (omega arith) c.before.if-is_bracketed.true).1)
     (λ c. omega arith)
     (λ c. omega arith)
     (λ c κs. let b = c.before in
-    wider_asked (start b).requires under_threshold (low b).ensures (rest b).ensures b.is-bracketed.ensures c.if1.false
+    wider_asked (start b).requires under_threshold b.before.before.excess-low.ensures b.before.excess-high.ensures b.is_bracketed.ensures c.if-is_bracketed.false
     (omega arith) (λ h. omega arith))
-    (λ c. c.search-near.ensures)
+    (λ c. c.search_near.ensures)

@@ -19,7 +19,7 @@ product-size s k p e h l =
     mul-le-mul small l
 
 -- what is known once both sines are read
-module _ (b : tie.After-minute-sine2) where
+module _ (b : tie.After-minute_sine-c) where
   abbrev start : tie.Start
   start = b.before.before.before
 
@@ -30,26 +30,26 @@ module _ (b : tie.After-minute-sine2) where
   q = start.args.q
 
   abbrev k : ℕ
-  k = b.before.before.estimate-minutes.result
+  k = b.before.before.estimate_minutes-k.result
 
   abbrev s : ℕ
-  s = b.before.minute-sine.result
+  s = b.before.minute_sine-s.result
 
   abbrev c : ℕ
-  c = b.minute-sine2.result
+  c = b.minute_sine-c.result
 
   -- what the tangent's numerator is divided by, so that the quotient is in mas
   abbrev mas : ℕ
   mas = c * p / 206_264_806 + s * q / 206_264_806 + 1
 
   k_inside : k ≤ quarter_minutes
-  k_inside = b.before.before.estimate-minutes.ensures
+  k_inside = b.before.before.estimate_minutes-k.ensures
 
   sine-product : (n : ℕ) → n ≤ angle_limit → s * n ≤ unit * angle_limit
-  sine-product n = product-size s k n b.before.minute-sine.ensures k_inside
+  sine-product n = product-size s k n b.before.minute_sine-s.ensures k_inside
 
   cosine-product : (n : ℕ) → n ≤ angle_limit → c * n ≤ unit * angle_limit
-  cosine-product n = product-size c (quarter_minutes - k) n b.minute-sine2.ensures (omega arith)
+  cosine-product n = product-size c (quarter_minutes - k) n b.minute_sine-c.ensures (omega arith)
 
   record Products : Type 0 where
     pub cp : c * p ≤ unit * angle_limit
@@ -60,61 +60,61 @@ module _ (b : tie.After-minute-sine2) where
   products : Products
   products =
       record {
-        cp = cosine-product p start.pre.p_size;
-        sq = sine-product q start.pre.q_size;
-        cq = cosine-product q start.pre.q_size;
-        sp = sine-product p start.pre.p_size;
+        cp = cosine-product p start.requires.p_size;
+        sq = sine-product q start.requires.q_size;
+        cq = cosine-product q start.requires.q_size;
+        sp = sine-product p start.requires.p_size;
       }
 
-estimate-minutes-requires : tie.Need-estimate-minutes-requires
+estimate-minutes-requires : tie.Need-estimate_minutes-k-requires
 estimate-minutes-requires c κs = search rules
 
-minute-sine-requires : tie.Need-minute-sine-requires
+minute-sine-requires : tie.Need-minute_sine-s-requires
 minute-sine-requires c κs = search rules
 
-sub-minute-sine : tie.Need-overflow-sub-minute-sine
+sub-minute-sine : tie.Need-overflow_sub-k
 sub-minute-sine c = search rules
 
-minute-sine-requires-2 : tie.Need-minute-sine-requires-2
+minute-sine-requires-2 : tie.Need-minute_sine-c-requires
 minute-sine-requires-2 c κs = search rules
 
-mul-mas : tie.Need-overflow-mul-mas
+mul-mas : tie.Need-overflow_mul-mas
 mul-mas c = record { fits = omega (arith, (products c).cp) }
 
-mul-mas-2 : tie.Need-overflow-mul-mas-2
+mul-mas-2 : tie.Need-overflow_mul-mas-2
 mul-mas-2 c = record { fits = omega (arith, (products c).sq) }
 
-add-mas : tie.Need-overflow-add-mas
+add-mas : tie.Need-overflow_add-mas
 add-mas c = let m = products c in record { fits = omega arith }
 
-add-mas-2 : tie.Need-overflow-add-mas-2
+add-mas-2 : tie.Need-overflow_add-mas-2
 add-mas-2 c = let m = products c in record { fits = omega arith }
 
-mul-theta : tie.Need-overflow-mul-theta
+mul-theta : tie.Need-overflow_mul-theta
 mul-theta c = search rules
 
-mul-excess : tie.Need-overflow-mul-excess
+mul-excess : tie.Need-overflow_mul-c
 mul-excess c = record { fits = omega (arith, (products c).cq) }
 
-mul-excess-2 : tie.Need-overflow-mul-excess-2
+mul-excess-2 : tie.Need-overflow_mul-mas-3
 mul-excess-2 c = let m = products c in record { fits = omega arith }
 
-add-excess : tie.Need-overflow-add-excess
+add-excess : tie.Need-overflow_add-c
 add-excess c = let m = products c in record { fits = omega arith }
 
-add-excess-2 : tie.Need-overflow-add-excess-2
+add-excess-2 : tie.Need-overflow_add-c-2
 add-excess-2 c = let m = products c in record { fits = omega arith }
 
-mul-excess-3 : tie.Need-overflow-mul-excess-3
+mul-excess-3 : tie.Need-overflow_mul-s
 mul-excess-3 c = record { fits = omega (arith, (products c).sp) }
 
 excess-requires : tie.Need-excess-requires
 excess-requires c κs = search rules
 
-div-theta : tie.Need-nonzero-div-theta
+div-theta : tie.Need-nonzero_div-theta
 div-theta c = search rules
 
-add-theta : tie.Need-overflow-add-theta
+add-theta : tie.Need-overflow_add-theta
 add-theta c =
     let m = products c.before in
     record { fits = omega (arith, c.excess.ensures, div-le_self c.excess.result (mas c.before)) }
@@ -125,14 +125,14 @@ excess-requires-2 c κs = search rules
 excess-requires-3 : tie.Need-excess-requires-3
 excess-requires-3 c κs = search rules
 
-sub-result : tie.Need-overflow-sub-result
+sub-result : tie.Need-overflow_sub-result
 sub-result c = search rules
 
 returns : tie.Need-returns
 returns c = search rules
 
-pub estimate-spec : {M : Type 1} → statement M
-estimate-spec =
+pub estimate_spec : {M : Type 1} → statement M
+estimate_spec =
     tie.close
     (tie.spec
     estimate-minutes-requires

@@ -6,17 +6,17 @@ use native.Mathlib.Omega.{arith}
 use Rattle.angles.proofs.ratio.Statement.{statement}
 use Rattle.angles.proofs.ratio.Tie as tie
 
-mul-result : tie.Need-overflow-mul-result
+mul-result : tie.Need-overflow_mul-result
 mul-result c = search rules
 
-add-result : tie.Need-overflow-add-result
+add-result : tie.Need-overflow_add-result
 add-result c = search rules
 
-div-result : tie.Need-nonzero-div-result
+div-result : tie.Need-nonzero_div-result
 div-result c = search rules
 
 returns : tie.Need-returns
 returns c = div-le_of_le-mul (c.args.upper + 1) (omega arith)
 
-pub ratio-spec : {M : Type 1} → statement M
-ratio-spec = tie.close (tie.spec mul-result add-result div-result returns)
+pub ratio_spec : {M : Type 1} → statement M
+ratio_spec = tie.close (tie.spec mul-result add-result div-result returns)

@@ -19,7 +19,7 @@ use Rattle.angles.proofs.settle.Statement.{statement}
 use Rattle.angles.proofs.settle.Tie as tie
 
 -- what is known once sine and cosine are
-module _ (c : tie.After-quarter-pair) where
+module _ (c : tie.After-quarter_pair-at) where
   abbrev start : tie.Start
   start = c.before.before
 
@@ -33,73 +33,73 @@ module _ (c : tie.After-quarter-pair) where
   q = start.args.q
 
   later : 0 < θ % minute
-  later = omega (arith, c.before.if1.false)
+  later = omega (arith, c.before.if-r-eq0.false)
 
   below : θ / minute < quarter_minutes
-  below = omega (arith, later, start.pre.1)
+  below = omega (arith, later, start.requires.1)
 
-  sine_is : c.quarter-pair.result.sine ≡ first_quarter θ
-  sine_is = c.quarter-pair.ensures.0 ∙ ap first_quarter (div-add-mod' θ minute)
+  sine_is : c.quarter_pair-at.result.sine ≡ first_quarter θ
+  sine_is = c.quarter_pair-at.ensures.0 ∙ ap first_quarter (div-add-mod' θ minute)
 
-  cosine_is : c.quarter-pair.result.cosine ≡ first_quarter (right_angle - θ)
-  cosine_is = c.quarter-pair.ensures.1 ∙ ap (λ (x : ℕ). first_quarter (right_angle - x)) (div-add-mod' θ minute)
+  cosine_is : c.quarter_pair-at.result.cosine ≡ first_quarter (right_angle - θ)
+  cosine_is = c.quarter_pair-at.ensures.1 ∙ ap (λ (x : ℕ). first_quarter (right_angle - x)) (div-add-mod' θ minute)
 
-  s-small : c.quarter-pair.result.sine * p ≤ unit * angle_limit
-  s-small = product_small _ θ p sine_is start.pre.1 start.pre.0.p_size
+  s-small : c.quarter_pair-at.result.sine * p ≤ unit * angle_limit
+  s-small = product_small _ θ p sine_is start.requires.1 start.requires.0.p_size
 
-  c-small : c.quarter-pair.result.cosine * q ≤ unit * angle_limit
-  c-small = product_small _ (right_angle - θ) q cosine_is (omega arith) start.pre.0.q_size
+  c-small : c.quarter_pair-at.result.cosine * q ≤ unit * angle_limit
+  c-small = product_small _ (right_angle - θ) q cosine_is (omega arith) start.requires.0.q_size
 
-returns : tie.Need-returns
+returns : tie.Need-returns-then-r-eq0
 returns c = search rules
 
-quarter-pair-requires : tie.Need-quarter-pair-requires
+quarter-pair-requires : tie.Need-quarter_pair-at-requires
 quarter-pair-requires c κs = search rules
 
-mul-s : tie.Need-overflow-mul-s
+mul-s : tie.Need-overflow_mul-s
 mul-s c = record { fits = omega (arith, s-small c.before) }
 
-mul-c : tie.Need-overflow-mul-c
+mul-c : tie.Need-overflow_mul-c
 mul-c c = record { fits = omega (arith, c-small c.before.before) }
 
 rise-requires : tie.Need-rise-requires
 rise-requires c κs = search rules
 
 -- the rises over the two minutes
-abbrev pair-at-rise : tie.After-rise → tie.After-quarter-pair
+abbrev pair-at-rise : tie.After-rise → tie.After-quarter_pair-at
 pair-at-rise c = c.before.before.before
 
 sine-fall : (c : tie.After-rise) → c.rise.result * p (pair-at-rise c) ≤ most_rise * angle_limit
-sine-fall c = let b = pair-at-rise c in rise_product _ _ (p b) angle_limit c.rise.ensures (below b) (start b).pre.0.p_size
+sine-fall c = let b = pair-at-rise c in rise_product _ _ (p b) angle_limit c.rise.ensures (below b) (start b).requires.0.p_size
 
-cosine-fall : (c : tie.After-rise2) → c.rise2.result * q (pair-at-rise c.before) ≤ most_rise * angle_limit
-cosine-fall c = let b = pair-at-rise c.before in rise_product _ _ (q b) angle_limit c.rise2.ensures (omega (arith, below b)) (start b).pre.0.q_size
+cosine-fall : (c : tie.After-rise-2) → c.rise-2.result * q (pair-at-rise c.before) ≤ most_rise * angle_limit
+cosine-fall c = let b = pair-at-rise c.before in rise_product _ _ (q b) angle_limit c.rise-2.ensures (omega (arith, below b)) (start b).requires.0.q_size
 
-mul-fall : tie.Need-overflow-mul-fall
+mul-fall : tie.Need-overflow_mul-fall
 mul-fall c = record { fits = omega (arith, sine-fall c) }
 
-sub-rise : tie.Need-overflow-sub-rise
+sub-rise : tie.Need-overflow_sub-rise
 sub-rise c = search rules
 
-sub-rise-2 : tie.Need-overflow-sub-rise-2
+sub-rise-2 : tie.Need-overflow_sub-k
 sub-rise-2 c = search rules
 
 rise-requires-2 : tie.Need-rise-requires-2
 rise-requires-2 c κs = search rules
 
-mul-fall-2 : tie.Need-overflow-mul-fall-2
+mul-fall-2 : tie.Need-overflow_mul-fall-2
 mul-fall-2 c = record { fits = omega (arith, cosine-fall c) }
 
-add-fall : tie.Need-overflow-add-fall
+add-fall : tie.Need-overflow_add-fall
 add-fall c = record { fits = omega (arith, sine-fall c.before, cosine-fall c) }
 
-add-slack : tie.Need-overflow-add-slack
+add-slack : tie.Need-overflow_add-slack
 add-slack c = search rules
 
-add-slack-2 : tie.Need-overflow-add-slack-2
+add-slack-2 : tie.Need-overflow_add-slack-2
 add-slack-2 c = search rules
 
-add-slack-3 : tie.Need-overflow-add-slack-3
+add-slack-3 : tie.Need-overflow_add-slack-3
 add-slack-3 c = search rules
 
 excess-requires : tie.Need-excess-requires
@@ -108,18 +108,18 @@ excess-requires c κs = search rules
 excess-requires-2 : tie.Need-excess-requires-2
 excess-requires-2 c κs = search rules
 
-abbrev pair-at-excess2 : tie.After-excess2 → tie.After-quarter-pair
+abbrev pair-at-excess2 : tie.After-excess-2 → tie.After-quarter_pair-at
 pair-at-excess2 c = pair-at-rise c.before.before.before
 
-add-if2 : tie.Need-overflow-add-if2
+add-if2 : tie.Need-overflow_add-excess
 add-if2 c = search rules
 
-add-if2-2 : tie.Need-overflow-add-if2-2
+add-if2-2 : tie.Need-overflow_add-excess-2
 add-if2-2 c =
     let b = pair-at-excess2 c in
-    record { fits = omega (arith, c.before.excess.ensures, c.excess2.ensures, s-small b, c-small b, (start b).pre.0.p_size, (start b).pre.0.q_size) }
+    record { fits = omega (arith, c.before.excess.ensures, c.excess-2.ensures, s-small b, c-small b, (start b).requires.0.p_size, (start b).requires.0.q_size) }
 
-returns-2 : tie.Need-returns-2
+returns-2 : tie.Need-returns-then-fall-excess
 returns-2 c = search rules
 
 over-requires : tie.Need-over-requires
@@ -127,29 +127,29 @@ over-requires c κs = search rules
 
 -- the test in the law's numbers
 module _ (c : tie.After-over) where
-  abbrev b : tie.After-quarter-pair
+  abbrev b : tie.After-quarter_pair-at
   b = pair-at-excess2 c.before.before
 
-  s-is : b.quarter-pair.result.sine * p b ≡ left (p b) (θ b)
+  s-is : b.quarter_pair-at.result.sine * p b ≡ left (p b) (θ b)
   s-is = ap (λ (x : ℕ). x * p b) (sine_is b)
 
-  c-is : b.quarter-pair.result.cosine * q b ≡ right (q b) (θ b)
+  c-is : b.quarter_pair-at.result.cosine * q b ≡ right (q b) (θ b)
   c-is = ap (λ (x : ℕ). x * q b) (cosine_is b)
 
   d-is : c.before.before.before.before.before.rise.result * p b ≡ rise_of (θ b / minute) * p b
   d-is = ap (λ (x : ℕ). x * p b) c.before.before.before.before.before.rise.ensures
 
-  e-is : c.before.before.before.before.rise2.result * q b ≡ rise_of (5400 - 1 - θ b / minute) * q b
-  e-is = ap (λ (x : ℕ). x * q b) c.before.before.before.before.rise2.ensures
+  e-is : c.before.before.before.before.rise-2.result * q b ≡ rise_of (5400 - 1 - θ b / minute) * q b
+  e-is = ap (λ (x : ℕ). x * q b) c.before.before.before.before.rise-2.ensures
 
   test : (right (q b) (θ b) - left (p b) (θ b)) + (left (p b) (θ b) - right (q b) (θ b)) + slack (p b + q b)
-      < fall (p b) (q b) (θ b) (later b) (start b).pre.1
+      < fall (p b) (q b) (θ b) (later b) (start b).requires.1
   test =
       omega (
         arith,
-        c.before.if2.false,
+        c.before.if-fall-excess.false,
         c.before.before.before.excess.ensures,
-        c.before.before.excess2.ensures,
+        c.before.before.excess-2.ensures,
         s-is,
         c-is,
         d-is,
@@ -163,17 +163,17 @@ over-most s c = at (leb s c)
     at true = omega arith
     at false = omega arith
 
-sub-t16 : tie.Need-overflow-sub-t16
-sub-t16 c = omega (arith, c.over.ensures, over-most ((b c).quarter-pair.result.sine * p (b c)) ((b c).quarter-pair.result.cosine * q (b c)), later (b c))
+sub-t16 : tie.Need-overflow_sub-result
+sub-t16 c = omega (arith, c.over.ensures, over-most ((b c).quarter_pair-at.result.sine * p (b c)) ((b c).quarter_pair-at.result.cosine * q (b c)), later (b c))
 
-returns-3 : tie.Need-returns-3
+returns-3 : tie.Need-returns
 returns-3 c =
     let at = b c in
-    settled (p at) (q at) (θ at) (later at) (start at).pre.1 (test c)
+    settled (p at) (q at) (θ at) (later at) (start at).requires.1 (test c)
     ∙ ap (λ (x : ℕ). θ at - x) (sym (c.over.ensures ∙ ap₂ over (s-is c) (c-is c)))
 
-pub settle-spec : {M : Type 1} → statement M
-settle-spec =
+pub settle_spec : {M : Type 1} → statement M
+settle_spec =
     tie.close
     (tie.spec
     returns

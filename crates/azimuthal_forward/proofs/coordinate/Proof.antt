@@ -10,7 +10,7 @@ use Rattle.integers.proofs.Rounding.{near_size, nearest_le}
 use Rattle.azimuthal_forward.proofs.coordinate.Statement.{statement}
 use Rattle.azimuthal_forward.proofs.coordinate.Tie as tie
 
-mul-near : tie.Need-overflow-mul-near
+mul-near : tie.Need-overflow_mul-r
 mul-near c = fits (search (code, c.requires.1, c.requires.2) depth 40 fits 20000) tt
 
 -- half the divisor more is still within 63 bits
@@ -37,7 +37,7 @@ result-size c =
     let start = c.before in
     rw (quotient_is c) (quotient-size start.args.r start.args.x start.args.h start.requires.1 start.requires.2 start.requires.3 start.requires.4)
 
-add-result : tie.Need-overflow-add-result
+add-result : tie.Need-overflow_add-result
 add-result c = fits (search (code, c.before.requires.0, result-size c) depth 40 fits 20000) tt
 
 returns : tie.Need-returns
@@ -45,5 +45,5 @@ returns c =
     read (search (code, c.before.requires.0, result-size c) depth 40 fits 20000) tt
     ∙ ap (λ (n : ℤ). c.before.args.origin +ℤ n) (quotient_is c)
 
-pub coordinate-spec : {M : Type 1} → statement M
-coordinate-spec = tie.close (tie.spec mul-near near-requires add-result returns)
+pub coordinate_spec : {M : Type 1} → statement M
+coordinate_spec = tie.close (tie.spec mul-near near-requires add-result returns)

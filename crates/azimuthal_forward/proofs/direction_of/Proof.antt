@@ -21,28 +21,28 @@ use Rattle.azimuthal_forward.proofs.direction_of.Statement.{statement}
 use Rattle.azimuthal_forward.proofs.direction_of.Tie as tie
 
 -- the start of the function, as the later places look back at it
-abbrev start-at-to-authalic : tie.After-to-authalic → tie.Start
+abbrev start-at-to-authalic : tie.After-to_authalic-beta → tie.Start
 start-at-to-authalic c = c.before.before.before.before
 
-abbrev start-at-turn : tie.After-sine-cosine2 → tie.Start
+abbrev start-at-turn : tie.After-sine_cosine-turn → tie.Start
 start-at-turn c = start-at-to-authalic c.before.before
 
-abbrev turn-at-product : tie.After-product → tie.After-sine-cosine2
+abbrev turn-at-product : tie.After-product-v → tie.After-sine_cosine-turn
 turn-at-product c = c.before.before.before
 
-abbrev product-at-product2 : tie.After-product2 → tie.After-product
+abbrev product-at-product2 : tie.After-product → tie.After-product-v
 product-at-product2 c = c.before.before.before
 
-abbrev turn-at-product2 : tie.After-product2 → tie.After-sine-cosine2
+abbrev turn-at-product2 : tie.After-product → tie.After-sine_cosine-turn
 turn-at-product2 c = turn-at-product (product-at-product2 c)
 
-abbrev start-at-product2 : tie.After-product2 → tie.Start
+abbrev start-at-product2 : tie.After-product → tie.Start
 start-at-product2 c = start-at-turn (turn-at-product2 c)
 
-abbrev product2-at-difference : tie.After-difference → tie.After-product2
+abbrev product2-at-difference : tie.After-difference → tie.After-product
 product2-at-difference c = c.before.before
 
-abbrev product2-at-sum : tie.After-sum → tie.After-product2
+abbrev product2-at-sum : tie.After-sum → tie.After-product
 product2-at-sum c = product2-at-difference c.before.before
 
 abbrev start-at-sum : tie.After-sum → tie.Start
@@ -52,39 +52,39 @@ start-at-sum c = start-at-product2 (product2-at-sum c)
 abbrev value : (Constants → Geodetic → ℤ → ℤ) → tie.Start → ℤ
 value q s = q s.args.k s.args.lat s.args.d
 
-to-authalic-requires : tie.Need-to-authalic-requires
+to-authalic-requires : tie.Need-to_authalic-beta-requires
 to-authalic-requires c κs = search rules
 
-beta-is : (c : tie.After-to-authalic) → c.to-authalic.result.0 ≡ (beta (start-at-to-authalic c).args.k.series (start-at-to-authalic c).args.lat).0
-beta-is c = ap (λ (x : Authalic). x.0) c.to-authalic.ensures
+beta-is : (c : tie.After-to_authalic-beta) → c.to_authalic-beta.result.0 ≡ (beta (start-at-to-authalic c).args.k.series (start-at-to-authalic c).args.lat).0
+beta-is c = ap (λ (x : Authalic). x.0) c.to_authalic-beta.ensures
 
-beta-small : (c : tie.After-to-authalic) → nat_abs c.to-authalic.result.0 ≤ right_angle
+beta-small : (c : tie.After-to_authalic-beta) → nat_abs c.to_authalic-beta.result.0 ≤ right_angle
 beta-small c =
     let s = start-at-to-authalic c in
-    rw (beta-is c) (beta_size _ s.pre.1 _ s.pre.3)
+    rw (beta-is c) (beta_size _ s.requires.1 _ s.requires.3)
 
-sine-cosine-requires : tie.Need-sine-cosine-requires
+sine-cosine-requires : tie.Need-sine_cosine-on-requires
 sine-cosine-requires c κs = ((start-at-to-authalic c).requires.0, beta-small c)
 
-sine-cosine-requires-2 : tie.Need-sine-cosine-requires-2
+sine-cosine-requires-2 : tie.Need-sine_cosine-turn-requires
 sine-cosine-requires-2 c κs = (start-at-to-authalic c.before).requires.0
 
 -- b, c, and sine and cosine of Δ
-record Sines (c : tie.After-sine-cosine2) (s : tie.Start) : Type 0 where
-  pub b-holds : Holds c.before.sine-cosine.result.sine (value b s)
-  pub c-holds : Holds c.before.sine-cosine.result.cosine (value Steps.c s)
-  pub sine-Δ : Holds c.sine-cosine2.result.sine (sine s.args.d)
-  pub cosine-Δ : Holds c.sine-cosine2.result.cosine (cosine s.args.d)
+record Sines (c : tie.After-sine_cosine-turn) (s : tie.Start) : Type 0 where
+  pub b-holds : Holds c.before.sine_cosine-on.result.sine (value b s)
+  pub c-holds : Holds c.before.sine_cosine-on.result.cosine (value Steps.c s)
+  pub sine-Δ : Holds c.sine_cosine-turn.result.sine (sine s.args.d)
+  pub cosine-Δ : Holds c.sine_cosine-turn.result.cosine (cosine s.args.d)
 
 -- a field that a call gave is read back as it was
 field-holds : {x y : ℤ} → x ≡ y → nat_abs y ≤ unit → Holds x y
 field-holds e h = holds (back_is e h (lit< tt)) h (lit≤ tt)
 
-sines : (c : tie.After-sine-cosine2) → Sines c (start-at-turn c)
+sines : (c : tie.After-sine_cosine-turn) → Sines c (start-at-turn c)
 unfolding b Steps.c
 sines c =
-    let on = c.before.sine-cosine.ensures in
-    let turn = c.sine-cosine2.ensures in
+    let on = c.before.sine_cosine-on.ensures in
+    let turn = c.sine_cosine-turn.ensures in
     let β = beta-is c.before.before in
     let Δ = to_z-of_z (start-at-turn c).ranges.d in
     record {
@@ -94,30 +94,30 @@ sines c =
       cosine-Δ = field-holds (turn.1 ∙ ap cosine Δ) (cosine_size _);
     }
 
-product-requires : tie.Need-product-requires
+product-requires : tie.Need-product-v-requires
 product-requires c κs = let s = sines c.before.before in (s.c-holds.small, s.cosine-Δ.small)
 
-v-holds : (c : tie.After-product) → Holds c.product.result (value v (start-at-turn (turn-at-product c)))
+v-holds : (c : tie.After-product-v) → Holds c.product-v.result (value v (start-at-turn (turn-at-product c)))
 unfolding v
 v-holds c =
     let s = sines (turn-at-product c) in
-    holds (product_is c.product.type-inv c.product.ensures s.c-holds.is s.cosine-Δ.is) (v_size _ _ _) (lit≤ tt)
+    holds (product_is c.product-v.type_inv c.product-v.ensures s.c-holds.is s.cosine-Δ.is) (v_size _ _ _) (lit≤ tt)
 
-product-requires-2 : tie.Need-product-requires-2
+product-requires-2 : tie.Need-product-requires
 product-requires-2 c κs = let s = sines (turn-at-product c.before.before) in (s.c-holds.small, s.sine-Δ.small)
 
-u-read : (c : tie.After-product2) → back c.product2.result ≡ value u (start-at-product2 c)
+u-read : (c : tie.After-product) → back c.product.result ≡ value u (start-at-product2 c)
 unfolding u
-u-read c = let s = sines (turn-at-product2 c) in product_is c.product2.type-inv c.product2.ensures s.c-holds.is s.sine-Δ.is
+u-read c = let s = sines (turn-at-product2 c) in product_is c.product.type_inv c.product.ensures s.c-holds.is s.sine-Δ.is
 
 -- C0, b, S0 and v, which both of the last calls take
-record Taken (c : tie.After-product2) (s : tie.Start) : Type 0 where
+record Taken (c : tie.After-product) (s : tie.Start) : Type 0 where
   pub c0-holds : Holds s.args.k.c0 s.args.k.c0
-  pub b-holds : Holds (turn-at-product2 c).before.sine-cosine.result.sine (value b s)
+  pub b-holds : Holds (turn-at-product2 c).before.sine_cosine-on.result.sine (value b s)
   pub s0-holds : Holds s.args.k.s0 s.args.k.s0
-  pub v-holds : Holds (product-at-product2 c).product.result (value v s)
+  pub v-holds : Holds (product-at-product2 c).product-v.result (value v s)
 
-taken : (c : tie.After-product2) → Taken c (start-at-product2 c)
+taken : (c : tie.After-product) → Taken c (start-at-product2 c)
 taken c =
     let centre = (start-at-product2 c).requires.2 in
     record {
@@ -135,7 +135,7 @@ w-read : (c : tie.After-difference) → back c.difference.result ≡ value w (st
 unfolding w
 w-read c =
     let t = taken (product2-at-difference c) in
-    near_is c.difference.type-inv unit c.difference.ensures (rw (t.c0-holds.is, t.b-holds.is, t.s0-holds.is, t.v-holds.is))
+    near_is c.difference.type_inv unit c.difference.ensures (rw (t.c0-holds.is, t.b-holds.is, t.s0-holds.is, t.v-holds.is))
 
 sum-requires : tie.Need-sum-requires
 sum-requires c κs =
@@ -145,9 +145,9 @@ G-is : (c : tie.After-sum) → U +ℤ back c.sum.result ≡ value G (start-at-su
 unfolding G
 G-is c =
     let t = taken (product2-at-sum c) in
-    ap (λ (x : ℤ). U +ℤ x) (near_is c.sum.type-inv unit c.sum.ensures (rw (t.s0-holds.is, t.b-holds.is, t.c0-holds.is, t.v-holds.is)))
+    ap (λ (x : ℤ). U +ℤ x) (near_is c.sum.type_inv unit c.sum.ensures (rw (t.s0-holds.is, t.b-holds.is, t.c0-holds.is, t.v-holds.is)))
 
-add-t15 : tie.Need-overflow-add-t15
+add-t15 : tie.Need-overflow_add-result
 add-t15 c = fits_is (G-is c) (G-size _ (start-at-sum c).requires.2 _ _) (lit< tt)
 
 returns : tie.Need-returns
@@ -155,8 +155,8 @@ unfolding direction_of
 returns c =
     rw (u-read (product2-at-sum c), w-read c.before.before, back_is (G-is c) (G-size _ (start-at-sum c).requires.2 _ _) (lit< tt))
 
-pub direction-of-spec : {M : Type 1} → statement M
-direction-of-spec =
+pub direction_of_spec : {M : Type 1} → statement M
+direction_of_spec =
     tie.close
     (tie.spec
     to-authalic-requires

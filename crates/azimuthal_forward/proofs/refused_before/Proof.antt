@@ -8,5 +8,5 @@ returns : tie.Need-returns
 unfolding refused_before
 returns c = search rules
 
-pub refused-before-spec : {M : Type 1} → statement M
-refused-before-spec = tie.close (tie.spec returns)
+pub refused_before_spec : {M : Type 1} → statement M
+refused_before_spec = tie.close (tie.spec returns)

@@ -4,7 +4,7 @@ use Rattle.azimuthal_forward.proofs.ForwardLaws.{scale_is}
 use Rattle.azimuthal_forward.proofs.scale.Statement.{statement}
 use Rattle.azimuthal_forward.proofs.scale.Tie as tie
 
-scale-square-requires : tie.Need-scale-square-requires
+scale-square-requires : tie.Need-scale_square-requires
 scale-square-requires c κs = search rules
 
 root-requires : tie.Need-root-requires
@@ -13,5 +13,5 @@ root-requires c κs = search rules
 returns : tie.Need-returns
 returns c = scale_is c.root.ensures c.before.scale_square.ensures c.before.before.ranges.g
 
-pub scale-spec : {M : Type 1} → statement M
-scale-spec = tie.close (tie.spec scale-square-requires root-requires returns)
+pub scale_spec : {M : Type 1} → statement M
+scale_spec = tie.close (tie.spec scale-square-requires root-requires returns)

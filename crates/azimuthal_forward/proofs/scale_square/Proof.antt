@@ -5,15 +5,15 @@ use Rattle.proof_kit.proofs.Certificate.{nonneg-*, nonneg_num}
 use Rattle.azimuthal_forward.proofs.scale_square.Statement.{statement}
 use Rattle.azimuthal_forward.proofs.scale_square.Tie as tie
 
-mul-result : tie.Need-overflow-mul-result
+mul-result : tie.Need-overflow_mul-result
 mul-result c = fits (search code depth 40 fits 20000) tt
 
-cast-result : tie.Need-overflow-cast-result
+cast-result : tie.Need-overflow_cast-result
 cast-result c =
     rw (as_sign, as_size) (unsigned (search (code, c.requires.1) depth 40 fits 20000) tt (nonneg-* c.requires.0 (nonneg_num 500_000_000)))
 
 returns : tie.Need-returns
 returns c = rw as_size (read_abs (search (code, c.requires.1) depth 40 fits 20000) tt)
 
-pub scale-square-spec : {M : Type 1} → statement M
-scale-square-spec = tie.close (tie.spec mul-result cast-result returns)
+pub scale_square_spec : {M : Type 1} → statement M
+scale_square_spec = tie.close (tie.spec mul-result cast-result returns)

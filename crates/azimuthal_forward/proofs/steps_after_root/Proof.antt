@@ -17,15 +17,15 @@ use Rattle.azimuthal_forward.proofs.steps_after_root.Statement.{statement}
 use Rattle.azimuthal_forward.proofs.steps_after_root.Tie as tie
 
 -- the places that the later ones look back at
-abbrev start-at-told3 : tie.After-struct-told3 → tie.Start
+abbrev start-at-told3 : tie.After-struct_told-3-1 → tie.Start
 start-at-told3 c = c.before.before.before.before.before.before
 
-abbrev coordinate-at-told6 : tie.After-struct-told6 → tie.After-coordinate
+abbrev coordinate-at-told6 : tie.After-struct_told-6-1 → tie.After-coordinate
 coordinate-at-told6 c = c.before.before.before
 
-returns : tie.Need-returns
+returns : tie.Need-returns-then-before-ne0
 unfolding after_root
-returns c = sym (is_refused_lem Refused _ _ c.if1.true)
+returns c = sym (is_refused_lem Refused _ _ c.if-before-ne0.true)
 
 -- a call of `coordinate` with o, r, x and the root h: what it requires holds, and its result is read back as the paper's coordinate
 record Called (h : ℕ) (o r x : ℤ) : Type 0 where
@@ -60,14 +60,14 @@ coordinate-requires c κs = (easting (start-at-told3 c)).requires
 coordinate-requires-2 : tie.Need-coordinate-requires-2
 coordinate-requires-2 c κs = (northing (start-at-told3 (coordinate-at-told6 c).before)).requires
 
-returns-2 : tie.Need-returns-2
+returns-2 : tie.Need-returns
 unfolding after_root
 returns-2 c =
     let e = coordinate-at-told6 c.before in
     let s = start-at-told3 e.before in
-    ap₂ Plane ((easting s).gives e.coordinate.ok e.coordinate.ensures) ((northing s).gives c.coordinate2.type-inv c.coordinate2.ensures)
-    ∙ sym (is_given Refused _ _ e.before.before.before.before.before.if1.left)
+    ap₂ Plane ((easting s).gives e.coordinate.type_inv e.coordinate.ensures) ((northing s).gives c.coordinate-2.type_inv c.coordinate-2.ensures)
+    ∙ sym (is_given Refused _ _ e.before.before.before.before.before.if-before-ne0.false)
 
-pub steps-after-root-spec : {M : Type 1} → statement M
-steps-after-root-spec =
+pub steps_after_root_spec : {M : Type 1} → statement M
+steps_after_root_spec =
     tie.close (tie.spec returns coordinate-requires coordinate-requires-2 returns-2)

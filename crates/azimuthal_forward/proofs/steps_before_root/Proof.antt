@@ -14,7 +14,7 @@ use Rattle.proof_kit.proofs.Order.{lt_z_true, lt_z_false, lt_le_z, le_le_z}
 use Rattle.units.specs.Units.{full_turn}
 use Rattle.parameters.proofs.AcceptedSet.{Accepted, accepted_fields}
 use Rattle.constants.specs.declared.Constants.{Constants}
-use Rattle.constants.specs.Derived.{constantsOf}
+use Rattle.constants.specs.Derived.{constants_of}
 use Rattle.constants.proofs.ConstantsLaws.{sound, sound_as}
 use Rattle.billionths.proofs.Calls.{back, back_is, fits_is}
 use Rattle.azimuthal_forward.specs.declared.Direction.{Direction}
@@ -26,13 +26,13 @@ use Rattle.azimuthal_forward.proofs.steps_before_root.Statement.{statement}
 use Rattle.azimuthal_forward.proofs.steps_before_root.Tie as tie
 
 -- the places that the later ones look back at
-abbrev start-at-else1 : tie.Else1 → tie.Start
+abbrev start-at-else1 : tie.Else-not-is_on_globe → tie.Start
 start-at-else1 c = c.before.before
 
-abbrev else1-at-direction-of : tie.After-direction-of → tie.Else1
+abbrev else1-at-direction-of : tie.After-direction_of-direction → tie.Else-not-is_on_globe
 else1-at-direction-of c = c.before.before.before
 
-abbrev start-at-direction-of : tie.After-direction-of → tie.Start
+abbrev start-at-direction-of : tie.After-direction_of-direction → tie.Start
 start-at-direction-of c = start-at-else1 (else1-at-direction-of c)
 
 -- the paper's Δ, nearness and direction for the set and the position that the function was given
@@ -43,25 +43,25 @@ abbrev nearness-of : tie.Start → ℤ
 nearness-of s = nearness s.args.p s.args.lat s.args.lon
 
 abbrev direction : tie.Start → Direction
-direction s = direction_of (constantsOf s.args.p) s.args.lat (Δ-of s)
+direction s = direction_of (constants_of s.args.p) s.args.lat (Δ-of s)
 
-is-on-globe-requires : tie.Need-is-on-globe-requires
+is-on-globe-requires : tie.Need-is_on_globe-requires
 is-on-globe-requires c κs = search rules
 
-globe-is : (c : tie.After-is-on-globe) → c.is-on-globe.result ≡ on_globe c.before.args.lat c.before.args.lon
-globe-is c = c.is-on-globe.ensures ∙ ap (on_globe c.before.args.lat) (to_z-of_z c.before.ranges.lon)
+globe-is : (c : tie.After-is_on_globe) → c.is_on_globe.result ≡ on_globe c.before.args.lat c.before.args.lon
+globe-is c = c.is_on_globe.ensures ∙ ap (on_globe c.before.args.lat) (to_z-of_z c.before.ranges.lon)
 
-refused-before-requires : tie.Need-refused-before-requires
+refused-before-requires : tie.Need-refused_before-requires
 refused-before-requires c κs = search rules
 
-returns : tie.Need-returns
+returns : tie.Need-returns-then-not-is_on_globe
 returns c =
     let on = c.before.before in
-    c.refused-before.ensures
-    ∙ sym (before_off_globe _ _ _ (sym (globe-is on) ∙ not-true on.is-on-globe.result c.before.if1.true))
+    c.refused_before.ensures
+    ∙ sym (before_off_globe _ _ _ (sym (globe-is on) ∙ c.before.if-not-is_on_globe.true))
 
-on-it : (c : tie.Else1) → on_globe (start-at-else1 c).args.lat (start-at-else1 c).args.lon ≡ true
-on-it c = sym (globe-is c.before) ∙ not-false c.before.is-on-globe.result c.if1.false
+on-it : (c : tie.Else-not-is_on_globe) → on_globe (start-at-else1 c).args.lat (start-at-else1 c).args.lon ≡ true
+on-it c = sym (globe-is c.before) ∙ c.if-not-is_on_globe.false
 
 set : (s : tie.Start) → Accepted s.args.p
 set s = accepted_fields _ s.requires.set_accepted
@@ -70,59 +70,59 @@ set s = accepted_fields _ s.requires.set_accepted
 Δ-is : (s : tie.Start) → back s.args.lon -ℤ back s.args.p.lon0 ≡ Δ-of s
 Δ-is s = ap₂ ◌-ℤ◌ (to_z-of_z s.ranges.lon) (kept s.args.p.lon0 (set s).lon0_size (lit< tt))
 
-Δ-size : (c : tie.Else1) → nat_abs (Δ-of (start-at-else1 c)) ≤ full_turn
+Δ-size : (c : tie.Else-not-is_on_globe) → nat_abs (Δ-of (start-at-else1 c)) ≤ full_turn
 Δ-size c =
     let s = start-at-else1 c in
     abs_sub_le s.args.lon s.args.p.lon0 (globe_sizes _ _ (on-it c)).1 (set s).lon0_size
 
-sub-direction-of : tie.Need-overflow-sub-direction-of
+sub-direction-of : tie.Need-overflow_sub-lon
 sub-direction-of c = let e = c.before.before in fits_is (Δ-is (start-at-else1 e)) (Δ-size e) (lit< tt)
 
-direction-of-requires : tie.Need-direction-of-requires
+direction-of-requires : tie.Need-direction_of-direction-requires
 direction-of-requires c κs =
     let e = c.before.before in
     let s = start-at-else1 e in
-    let k = sound_as _ _ s.pre.set_accepted s.pre.constants in
-    (s.pre.table, k.small, k.centre, (globe_sizes _ _ (on-it e)).0, rw (back_is (Δ-is s) (Δ-size e) (lit< tt)) (Δ-size e))
+    let k = sound_as _ _ s.requires.set_accepted s.requires.constants in
+    (s.requires.table, k.small, k.centre, (globe_sizes _ _ (on-it e)).0, rw (back_is (Δ-is s) (Δ-size e) (lit< tt)) (Δ-size e))
 
-direction-is : (c : tie.After-direction-of) → c.direction-of.result ≡ direction (start-at-direction-of c)
+direction-is : (c : tie.After-direction_of-direction) → c.direction_of-direction.result ≡ direction (start-at-direction-of c)
 direction-is c =
     let s = start-at-direction-of c in
-    c.direction-of.ensures
-    ∙ ap₂ (λ (k : Constants). direction_of k s.args.lat) s.pre.constants (back_is (Δ-is s) (Δ-size (else1-at-direction-of c)) (lit< tt))
+    c.direction_of-direction.ensures
+    ∙ ap₂ (λ (k : Constants). direction_of k s.args.lat) s.requires.constants (back_is (Δ-is s) (Δ-size (else1-at-direction-of c)) (lit< tt))
 
 nearness-size : (s : tie.Start) → nat_abs (nearness-of s) ≤ 3_000_000_000
 unfolding nearness
 nearness-size s = G-size _ (sound _ s.requires.set_accepted).centre _ _
 
-g-read : (c : tie.After-direction-of) → back c.direction-of.result.g ≡ nearness-of (start-at-direction-of c)
+g-read : (c : tie.After-direction_of-direction) → back c.direction_of-direction.result.g ≡ nearness-of (start-at-direction-of c)
 unfolding direction_of nearness
 g-read c = back_is (ap (λ (d : Direction). d.g) (direction-is c)) (nearness-size (start-at-direction-of c)) (lit< tt)
 
-far : (c : tie.Then2) → nearness-of (start-at-direction-of c.before.before) <ℤ pos 20_000_000
-far c = lt_z_true _ _ (rw (g-read c.before.before) at c.if2.true)
+far : (c : tie.Then-g-lt-LEAST_NEARNESS) → nearness-of (start-at-direction-of c.before.before) <ℤ pos 20_000_000
+far c = lt_z_true _ _ (rw (g-read c.before.before) at c.if-g-lt-LEAST_NEARNESS.true)
 
-enough : (c : tie.Else2) → pos 20_000_000 ≤ℤ nearness-of (start-at-direction-of c.before.before)
-enough c = lt_z_false _ _ (rw (g-read c.before.before) at c.if2.false)
+enough : (c : tie.Else-g-lt-LEAST_NEARNESS) → pos 20_000_000 ≤ℤ nearness-of (start-at-direction-of c.before.before)
+enough c = lt_z_false _ _ (rw (g-read c.before.before) at c.if-g-lt-LEAST_NEARNESS.false)
 
-refused-before-requires-2 : tie.Need-refused-before-requires-2
+refused-before-requires-2 : tie.Need-refused_before-requires-then-g-lt-LEAST_NEARNESS
 refused-before-requires-2 c κs = search rules
 
-returns-2 : tie.Need-returns-2
+returns-2 : tie.Need-returns-then-g-lt-LEAST_NEARNESS
 unfolding near_enough
 returns-2 c =
     let d = c.before.before.before in
-    c.refused-before2.ensures ∙ sym (before_too_far _ _ _ (on-it (else1-at-direction-of d)) (lt_le_z (far c.before)))
+    c.refused_before-then-g-lt-LEAST_NEARNESS.ensures ∙ sym (before_too_far _ _ _ (on-it (else1-at-direction-of d)) (lt_le_z (far c.before)))
 
-returns-3 : tie.Need-returns-3
+returns-3 : tie.Need-returns
 unfolding near_enough
 returns-3 c =
     let d = c.before.before in
     ap (λ (x : Direction). record { refusal = 0; direction = x }) (direction-is d)
     ∙ sym (before_accepted _ _ _ (on-it (else1-at-direction-of d)) (le_le_z (enough c)))
 
-pub steps-before-root-spec : {M : Type 1} → statement M
-steps-before-root-spec =
+pub steps_before_root_spec : {M : Type 1} → statement M
+steps_before_root_spec =
     tie.close
     (tie.spec
     is-on-globe-requires

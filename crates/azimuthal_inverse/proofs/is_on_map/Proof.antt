@@ -31,19 +31,19 @@ tested-is r z h f =
     ap₂ (λ (low high : ℤ). within low high (back z)) (read (search (code, h) depth 40 fits 20000) tt) (read (search (code, h) depth 40 fits 20000) tt)
     ∙ ap (on-axis r) (to_z-of_z f)
 
-mul-e : tie.Need-overflow-mul-e
+mul-e : tie.Need-overflow_mul-e
 mul-e c = fits (search code depth 40 fits 20000) tt
 
-mul-n : tie.Need-overflow-mul-n
+mul-n : tie.Need-overflow_mul-n
 mul-n c = fits (search code depth 40 fits 20000) tt
 
-sub-are-within : tie.Need-overflow-sub-are-within
+sub-are-within : tie.Need-overflow_sub-e
 sub-are-within c = fits (search code depth 40 fits 20000) tt
 
-sub-are-within-2 : tie.Need-overflow-sub-are-within-2
+sub-are-within-2 : tie.Need-overflow_sub-n
 sub-are-within-2 c = fits (search code depth 40 fits 20000) tt
 
-are-within-requires : tie.Need-are-within-requires
+are-within-requires : tie.Need-are_within-requires
 are-within-requires c κs = search rules
 
 returns : tie.Need-returns
@@ -52,8 +52,8 @@ returns c =
     let s = c.before.before.before.before.before in
     let rd : ℤ = s.args.k.rd in
     let rn : ℤ = s.args.k.rn in
-    ◌∙◌ {b = tested rd s.args.de && tested rn s.args.dn} c.are-within.ensures
+    ◌∙◌ {b = tested rd s.args.de && tested rn s.args.dn} c.are_within.ensures
     (ap₂ ◌&&◌ (tested-is rd _ s.requires.0 s.ranges.de) (tested-is rn _ s.requires.1 s.ranges.dn))
 
-pub is-on-map-spec : {M : Type 1} → statement M
-is-on-map-spec = tie.close (tie.spec mul-e mul-n sub-are-within sub-are-within-2 are-within-requires returns)
+pub is_on_map_spec : {M : Type 1} → statement M
+is_on_map_spec = tie.close (tie.spec mul-e mul-n sub-are-within sub-are-within-2 are-within-requires returns)

@@ -4,12 +4,12 @@ use Rattle.sphere_points.specs.Sphere.{G}
 use Rattle.azimuthal_inverse.proofs.nearness.Statement.{statement}
 use Rattle.azimuthal_inverse.proofs.nearness.Tie as tie
 
-sub-result : tie.Need-overflow-sub-result
+sub-result : tie.Need-overflow_sub-result
 sub-result c = fits (search (code, c.before.before.requires.versed_most) depth 40 fits 20000) tt
 
 returns : tie.Need-returns
 unfolding G
 returns c = read (search (code, c.before.before.requires.versed_most) depth 40 fits 20000) tt
 
-pub nearness-spec : {M : Type 1} → statement M
-nearness-spec = tie.close (tie.spec sub-result returns)
+pub nearness_spec : {M : Type 1} → statement M
+nearness_spec = tie.close (tie.spec sub-result returns)

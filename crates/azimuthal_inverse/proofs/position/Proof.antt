@@ -13,21 +13,21 @@ use Rattle.sphere_points.proofs.AngleLaws.{latitude_size, longitude_size}
 use Rattle.azimuthal_inverse.proofs.position.Statement.{statement}
 use Rattle.azimuthal_inverse.proofs.position.Tie as tie
 
-longitude-of-requires : tie.Need-longitude-of-requires
+longitude-of-requires : tie.Need-longitude_of-delta-requires
 longitude-of-requires c κs = search rules
 
-latitude-of-requires : tie.Need-latitude-of-requires
+latitude-of-requires : tie.Need-latitude_of-beta-requires
 latitude-of-requires c κs = search rules
 
-to-geodetic-requires : tie.Need-to-geodetic-requires
+to-geodetic-requires : tie.Need-to_geodetic-requires
 to-geodetic-requires c κs =
     let start = c.before.before in
-    (start.requires.0, start.requires.1, rw c.latitude-of.ensures (latitude_size start.args.s))
+    (start.requires.0, start.requires.1, rw c.latitude_of-beta.ensures (latitude_size start.args.s))
 
-Δ-size : (c : tie.After-longitude-of) → nat_abs c.longitude-of.result ≤ half_turn
-Δ-size c = rw c.longitude-of.ensures (longitude_size c.before.args.s)
+Δ-size : (c : tie.After-longitude_of-delta) → nat_abs c.longitude_of-delta.result ≤ half_turn
+Δ-size c = rw c.longitude_of-delta.ensures (longitude_size c.before.args.s)
 
-add-wrap : tie.Need-overflow-add-wrap
+add-wrap : tie.Need-overflow_add-lon0
 add-wrap c = let Δ = c.before.before in fits (search (code, Δ.before.requires.2, Δ-size Δ) depth 40 fits 20000) tt
 
 wrap-requires : tie.Need-wrap-requires
@@ -39,13 +39,13 @@ returns c =
     let Δ = β.before in
     let start = Δ.before in
     ap₂ Position
-    (c.before.to-geodetic.ensures ∙ ap (geodetic start.args.series) β.latitude-of.ensures)
-    (returned c.wrap.type-inv
+    (c.before.to_geodetic.ensures ∙ ap (geodetic start.args.series) β.latitude_of-beta.ensures)
+    (returned c.wrap.type_inv
     ∙ c.wrap.ensures
     ∙ ap wrapped (read (search (code, start.requires.2, Δ-size Δ) depth 40 fits 20000) tt
-    ∙ ap (λ (x : ℤ). start.args.lon0 +ℤ x) Δ.longitude-of.ensures))
+    ∙ ap (λ (x : ℤ). start.args.lon0 +ℤ x) Δ.longitude_of-delta.ensures))
 
-pub position-spec : {M : Type 1} → statement M
-position-spec =
+pub position_spec : {M : Type 1} → statement M
+position_spec =
     tie.close
     (tie.spec longitude-of-requires latitude-of-requires to-geodetic-requires add-wrap wrap-requires returns)

@@ -17,5 +17,5 @@ returns c =
     let y = kept q.y small.y_size (lit< tt) in
     rw (x, y, kept q.versed small.versed_most (lit< tt)) at c.point.ensures
 
-pub sphere-point-spec : {M : Type 1} → statement M
-sphere-point-spec = tie.close (tie.spec point-requires returns)
+pub sphere_point_spec : {M : Type 1} → statement M
+sphere_point_spec = tie.close (tie.spec point-requires returns)

@@ -16,7 +16,7 @@ product-requires c κs = (rw as_size (read_size (search code depth 40 fits 20000
 returns : tie.Need-returns
 unfolding to_mas
 returns c =
-    returned c.product.type-inv ∙ c.product.ensures ∙ ap (λ (z : ℤ). near z unit) (read (search code depth 40 fits 20000) tt)
+    returned c.product.type_inv ∙ c.product.ensures ∙ ap (λ (z : ℤ). near z unit) (read (search code depth 40 fits 20000) tt)
 
-pub in-mas-spec : {M : Type 1} → statement M
-in-mas-spec = tie.close (tie.spec product-requires returns)
+pub in_mas_spec : {M : Type 1} → statement M
+in_mas_spec = tie.close (tie.spec product-requires returns)

@@ -27,18 +27,18 @@ near-requires : tie.Need-near-requires
 near-requires c κs = (lit< tt, rw (e2-is c) (omega (arith, c.requires.0)))
 
 third-is : (c : tie.After-near) → back c.near.result ≡ near c.before.args.e2 3
-third-is c = near_is c.near.type-inv 3 c.near.ensures (e2-is c.before)
+third-is c = near_is c.near.type_inv 3 c.near.ensures (e2-is c.before)
 
-sub-unit-root : tie.Need-overflow-sub-unit-root
+sub-unit-root : tie.Need-overflow_sub-near
 sub-unit-root c = rw (third-is c) (fits (search (code, third c.before.args.e2 c.before.requires.0) depth 40 fits 20000) tt)
 
 near-requires-2 : tie.Need-near-requires-2
 near-requires-2 c κs = (lit< tt, rw (e4-is c.before) (omega (arith, e4_size c.before.args.e2 c.before.requires.0)))
 
-fifteenth-is : (c : tie.After-near2) → back c.near2.result ≡ near (e4 c.before.before.args.e2) 15
-fifteenth-is c = near_is c.near2.type-inv 15 c.near2.ensures (e4-is c.before.before)
+fifteenth-is : (c : tie.After-near-2) → back c.near-2.result ≡ near (e4 c.before.before.args.e2) 15
+fifteenth-is c = near_is c.near-2.type_inv 15 c.near-2.ensures (e4-is c.before.before)
 
-sub-unit-root-2 : tie.Need-overflow-sub-unit-root-2
+sub-unit-root-2 : tie.Need-overflow_sub-near-2
 sub-unit-root-2 c =
     let start = c.before.before in
     rw (third-is c.before, fifteenth-is c)
@@ -49,12 +49,12 @@ near-requires-3 c κs =
     let start = c.before.before in
     (lit< tt, rw (e6-is start) (omega (arith, e6_size start.args.e2 start.requires.0)))
 
-thirty-fifth-is : (c : tie.After-near3) → back c.near3.result ≡ near (e6 c.before.before.before.args.e2) 35
-thirty-fifth-is c = near_is c.near3.type-inv 35 c.near3.ensures (e6-is c.before.before.before)
+thirty-fifth-is : (c : tie.After-near-3) → back c.near-3.result ≡ near (e6 c.before.before.before.args.e2) 35
+thirty-fifth-is c = near_is c.near-3.type_inv 35 c.near-3.ensures (e6-is c.before.before.before)
 
 -- what is left of U is W
-w-is : (c : tie.After-near3) → back (back (pos unit -ℤ back c.before.before.near.result) -ℤ back c.before.near2.result) -ℤ back
-    c.near3.result ≡ W c.before.before.before.args.e2
+w-is : (c : tie.After-near-3) → back (back (pos unit -ℤ back c.before.before.near.result) -ℤ back c.before.near-2.result) -ℤ back
+    c.near-3.result ≡ W c.before.before.before.args.e2
 unfolding W
 w-is c =
     let start = c.before.before.before in
@@ -69,10 +69,10 @@ w-is c =
 w-about : (c : tie.Start) → About (W c.args.e2) unit 3_340_029
 w-about c = W-about c.args.e2 c.requires.0
 
-sub-unit-root-3 : tie.Need-overflow-sub-unit-root-3
+sub-unit-root-3 : tie.Need-overflow_sub-near-3
 sub-unit-root-3 c = fits_is (w-is c) (w-about c.before.before.before).high (lit< tt)
 
-unit-root-requires : tie.Need-unit-root-requires
+unit-root-requires : tie.Need-unit_root-requires
 unit-root-requires c κs =
     let w = w-about c.before.before.before in
     rw (back_is (w-is c) w.high (lit< tt)) (at_least 0 w.same zero-le, omega arith)
@@ -81,10 +81,10 @@ returns : tie.Need-returns
 unfolding J
 returns c =
     let w = w-about c.before.before.before.before in
-    unit_root_is c.unit-root.type-inv c.unit-root.ensures (back_is (w-is c.before) w.high (lit< tt))
+    unit_root_is c.unit_root.type_inv c.unit_root.ensures (back_is (w-is c.before) w.high (lit< tt))
 
-pub radius-ratio-spec : {M : Type 1} → statement M
-radius-ratio-spec =
+pub radius_ratio_spec : {M : Type 1} → statement M
+radius_ratio_spec =
     tie.close
     (tie.spec
     near-requires

@@ -19,19 +19,19 @@ abbrev μ : Measures 1 kinds.ps ℕ
 -- the start of the function
 abbrev start :
     {claims : lts.Claims} {Pre : In 1 kinds.ps} {Post : Out 1 kinds.ps kinds.r} →
-    lts.After-is-not-above claims Pre Post →
+    lts.After-is_not_above claims Pre Post →
     lts.Start claims Pre Post
 start c = c.before.before
 
 -- the answer where one is left, the two differences, the test of the middle, the two halves and their answers
-pub +search-spec : {M : Type 1} → statement M
-+search-spec = close μ λ t. lts.spec (_, is-not-above.Learnt, _, search'.Post) _ search'.Post
-    (λ c. one_is_left c.before.requires c.if1.true)
+pub +search_spec : {M : Type 1} → statement M
++search_spec = close μ λ t. lts.spec (_, is-not-above.Learnt, _, search'.Post) _ search'.Post
+    (λ c. one_is_left c.before.requires c.if-low-high.true)
     (λ c. c.before.requires.1.1.ordered)
     (λ c. half_fits c.before.requires)
     (λ c κs. middle_asked c.before.requires)
-    (λ c κs. upper_asked (start c.before).pre c.before.is-not-above.ensures c.before.before.if1.false c.if2.true)
-    (λ c. middle_some (start c.before).pre c.before.is-not-above.ensures c.if2.false)
-    (λ c κs. lower_asked (start c.before).pre c.before.is-not-above.ensures c.if2.false)
+    (λ c κs. upper_asked (start c.before).requires c.before.is_not_above.ensures c.before.before.if-low-high.false c.if-is_not_above.true)
+    (λ c. middle_some (start c.before).requires c.before.is_not_above.ensures c.if-is_not_above.false)
+    (λ c κs. lower_asked (start c.before).requires c.before.is_not_above.ensures c.if-is_not_above.false)
     (λ c. c.search.ensures)
-    (λ c. let b = c.before.before in c.search2.ensures ∙ lower_same (start b).requires b.is-not-above.ensures c.before.if2.false not_above_threshold)
+    (λ c. let b = c.before.before in c.search-else-is_not_above.ensures ∙ lower_same (start b).requires b.is_not_above.ensures c.before.if-is_not_above.false not_above_threshold)

@@ -13,13 +13,13 @@ use Rattle.geodetic_search.specs.InnerSearch.{estimate_limit}
 use Rattle.geodetic_search.proofs.count_from_pole.Statement.{statement}
 use Rattle.geodetic_search.proofs.count_from_pole.Tie as tie
 
-add-n : tie.Need-overflow-add-n
+add-n : tie.Need-overflow_add-n
 add-n c = fits (search code depth 40 fits 20000) tt
 
 raised : (x : ℤ) → nat_abs x ≤ estimate_limit → pos 0 ≤ℤ (x +ℤ pos estimate_limit)
 raised x h = le_by (x ∷ []) (search quote depth 40 fits 20000) (omega (order, abs_lower x h))
 
-cast-n : tie.Need-overflow-cast-n
+cast-n : tie.Need-overflow_cast-n
 cast-n c =
     rw (as_sign, as_size) (unsigned (search code depth 40 fits 20000) tt (raised c.args.lat c.requires))
 
@@ -29,12 +29,12 @@ excess-requires c κs = search rules
 excess-requires-2 : tie.Need-excess-requires-2
 excess-requires-2 c κs = search rules
 
-sub-result : tie.Need-overflow-sub-result
+sub-result : tie.Need-overflow_sub-result
 sub-result c = search rules
 
 returns : tie.Need-returns
 returns c = search rules
 
-pub count-from-pole-spec : {M : Type 1} → statement M
-count-from-pole-spec =
+pub count_from_pole_spec : {M : Type 1} → statement M
+count_from_pole_spec =
     tie.close (tie.spec add-n cast-n excess-requires excess-requires-2 sub-result returns)

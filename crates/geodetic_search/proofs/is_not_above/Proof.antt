@@ -18,13 +18,13 @@ use Rattle.geodetic_search.specs.Reverse.{from_south_pole, not_above}
 use Rattle.geodetic_search.proofs.is_not_above.Statement.{statement}
 use Rattle.geodetic_search.proofs.is_not_above.Tie as tie
 
-cast-t6 : tie.Need-overflow-cast-t6
+cast-t6 : tie.Need-overflow_cast-lat
 cast-t6 c = search rules
 
-sub-t7 : tie.Need-overflow-sub-t7
+sub-t7 : tie.Need-overflow_sub-lat
 sub-t7 c = fits (search code depth 40 fits 20000) tt
 
-to-authalic-requires : tie.Need-to-authalic-requires
+to-authalic-requires : tie.Need-to_authalic-requires
 to-authalic-requires c κs = (
   c.requires.0.table,
   c.requires.0.small,
@@ -35,7 +35,7 @@ returns : tie.Need-returns
 unfolding not_above
 returns c =
     let start = c.before.before.before.before.before in
-    let called = c.before.before.before.before.to-authalic in
+    let called = c.before.before.before.before.to_authalic in
     let k = start.args.k in
     let φ = from_south_pole start.args.n in
     let found : called.result ≡ beta k φ =
@@ -46,5 +46,5 @@ returns c =
     (ap (λ (b : Authalic). to_z w64 (of_z w64 b.0)) found ∙ latitude_read (beta k φ).0 size)
     (latitude_read start.args.beta.0 start.requires.0.beta_size)
 
-pub is-not-above-spec : {M : Type 1} → statement M
-is-not-above-spec = tie.close (tie.spec cast-t6 sub-t7 to-authalic-requires returns)
+pub is_not_above_spec : {M : Type 1} → statement M
+is_not_above_spec = tie.close (tie.spec cast-t6 sub-t7 to-authalic-requires returns)

@@ -23,24 +23,24 @@ use Rattle.geodetic_search.proofs.GeodeticLaws.{from_south_pole_size, counted, s
 use Rattle.geodetic_search.proofs.is_settled.Statement.{statement}
 use Rattle.geodetic_search.proofs.is_settled.Tie as tie
 
-abbrev start : tie.After-struct-told3 → tie.Start
+abbrev start : tie.After-struct_told-3-1 → tie.Start
 start c = c.before.before.before
 
-cast-phi : tie.Need-overflow-cast-phi
+cast-phi : tie.Need-overflow_cast-phi
 cast-phi c = search rules
 
-sub-phi : tie.Need-overflow-sub-phi
+sub-phi : tie.Need-overflow_sub-phi
 sub-phi c = fits (search code depth 40 fits 20000) tt
 
-three-lines-requires : tie.Need-three-lines-requires
+three-lines-requires : tie.Need-three_lines-about-requires
 three-lines-requires c κs =
     let s = start c in (
-      s.pre.0.table,
-      series_read_small s.args.k s.pre.0.small,
-      rw (counted s.args.n s.pre.1) (from_south_pole_size s.args.n s.pre.1),
+      s.requires.0.table,
+      series_read_small s.args.k s.requires.0.small,
+      rw (counted s.args.n s.requires.1) (from_south_pole_size s.args.n s.requires.1),
     )
 
-module _ (c : tie.After-three-lines) where
+module _ (c : tie.After-three_lines-about) where
   abbrev s : tie.Start
   s = start c.before
 
@@ -48,13 +48,13 @@ module _ (c : tie.After-three-lines) where
   k = s.args.k
 
   abbrev small : SmallSeries k
-  small = s.pre.0.small
+  small = s.requires.0.small
 
   abbrev φ : ℤ
   φ = (from_south_pole s.args.n).0
 
   abbrev about : ℤ
-  about = c.three-lines.result
+  about = c.three_lines-about.result
 
   abbrev exact : ℤ → ℤ
   exact x = three_terms k.k2 k.k4 k.k6 x
@@ -64,7 +64,7 @@ module _ (c : tie.After-three-lines) where
 
   close : nat_abs (about -ℤ exact φ) ≤ terms_error k.k2 k.k4 k.k6
   close =
-      rw (k2_read k small, k4_read k small, k6_read k small, counted s.args.n s.pre.1) at c.three-lines.ensures
+      rw (k2_read k small, k4_read k small, k6_read k small, counted s.args.n s.requires.1) at c.three_lines-about.ensures
 
   about-small : nat_abs about ≤ 47_000_000 * unit
   about-small = three_lines_size (series_small k small) about φ close
@@ -76,50 +76,50 @@ module _ (c : tie.After-three-lines) where
   there =
       omega (arith, close, abs_via about (exact φ) (exact (φ +ℤ pos 1)), abs_sub_sym (exact φ) (exact (φ +ℤ pos 1)), three_terms_step k.k2 k.k4 k.k6 φ)
 
-sub-is-safe : tie.Need-overflow-sub-is-safe
+sub-is-safe : tie.Need-overflow_sub-phi-2
 sub-is-safe c =
     let b = s c.before.before in
-    fits (search (code, b.pre.1, b.pre.0.beta_size) depth 40 fits 20000) tt
+    fits (search (code, b.requires.1, b.requires.0.beta_size) depth 40 fits 20000) tt
 
-settled-error-requires : tie.Need-settled-error-requires
+settled-error-requires : tie.Need-settled_error-requires
 settled-error-requires c κs = let l = c.before.before in series_read_small (k l) (small l)
 
-module _ (c : tie.After-settled-error) where
-  abbrev lines : tie.After-three-lines
+module _ (c : tie.After-settled_error) where
+  abbrev lines : tie.After-three_lines-about
   lines = c.before.before.before
 
-  error-is : c.settled-error.result ≡ error lines
+  error-is : c.settled_error.result ≡ error lines
   error-is =
-      rw (k2_read (k lines) (small lines), k4_read (k lines) (small lines), k6_read (k lines) (small lines)) at c.settled-error.ensures
+      rw (k2_read (k lines) (small lines), k4_read (k lines) (small lines), k6_read (k lines) (small lines)) at c.settled_error.ensures
 
-is-safe-requires : tie.Need-is-safe-requires
+is-safe-requires : tie.Need-is_safe-requires
 is-safe-requires c κs =
     let l = lines c in
     let terms = series_small (k l) (small l) in (
-      rw (returned l.three-lines.ok) (omega (arith, about-small l)),
-      rw as_size (read_size (search (code, (s l).pre.1, (s l).pre.0.beta_size) depth 40 fits 20000) tt),
+      rw (returned l.three_lines-about.type_inv) (omega (arith, about-small l)),
+      rw as_size (read_size (search (code, (s l).requires.1, (s l).requires.0.beta_size) depth 40 fits 20000) tt),
       omega (arith, error-is c, terms.k2_size, terms.k4_size, terms.k6_size),
     )
 
 -- what is that near the quicker sum rounds to φ − β
-module _ (c : tie.After-is-safe) (passed : c.is-safe.result ≡ true) where
-  abbrev l : tie.After-three-lines
+module _ (c : tie.After-is_safe) (passed : c.is_safe.result ≡ true) where
+  abbrev l : tie.After-three_lines-about
   l = lines c.before
 
   rounds : (m : ℤ) → nat_abs (about l -ℤ m) ≤ error l → near m unit ≡ φ l -ℤ (s l).args.beta.0
   unfolding from_south_pole
   rounds m h =
-      safe_told (about l) _ c.is-safe.ensures passed (returned l.three-lines.ok) (error-is c.before) m h
-      ∙ read (search (code, (s l).pre.1, (s l).pre.0.beta_size) depth 40 fits 20000) tt
+      safe_told (about l) _ c.is_safe.ensures passed (returned l.three_lines-about.type_inv) (error-is c.before) m h
+      ∙ read (search (code, (s l).requires.1, (s l).requires.0.beta_size) depth 40 fits 20000) tt
 
 returns : tie.Need-returns
 returns c passed =
     let b = l c passed in
-    settled_greatest (s b).pre.0 (s b).args.n (s b).pre.1
+    settled_greatest (s b).requires.0 (s b).args.n (s b).requires.1
     (rounds c passed (exact b (φ b)) (here b)) (rounds c passed (exact b (φ b +ℤ pos 1)) (there b))
 
-pub is-settled-spec : {M : Type 1} → statement M
-is-settled-spec =
+pub is_settled_spec : {M : Type 1} → statement M
+is_settled_spec =
     tie.close
     (tie.spec
     cast-phi

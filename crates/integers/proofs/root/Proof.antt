@@ -16,8 +16,8 @@ decreases-loop n bit₀ square₀ r₀ trial₀ bit square r trial = bit
 loop-holds : tie.Need-loop-bit-init invariant-loop decreases-loop
 loop-holds c =
     elim c.if-n.branch [
-      then-n w ↦ none_tried c.before.args.n 30 c.if-n.bit (omega arith) (omega arith) (omega arith)
-    | else-n w ↦ none_tried c.before.args.n 32 c.if-n.bit (omega arith) (omega arith) (omega arith)
+      | then-n w ↦ none_tried c.before.args.n 30 c.if-n.bit (omega arith) (omega arith) (omega arith)
+      | else-n w ↦ none_tried c.before.args.n 32 c.if-n.bit (omega arith) (omega arith) (omega arith)
     ]
 
 -- what a round leaves, where the digit is not taken and where it is

@@ -25,8 +25,8 @@ start : (c : tie.Joined-larger invariant-loop decreases-loop) (n : ℕ) → n �
 start c n h =
     let most = (larger-is c.before).2 in
     elim c.if-larger.branch [
-      then-larger w ↦ no_digits_tried n 30 c.if-larger.bit (omega arith) (omega arith) (omega arith)
-    | else-larger w ↦ no_digits_tried n 32 c.if-larger.bit (omega arith) (omega arith) (omega arith)
+      | then-larger w ↦ no_digits_tried n 30 c.if-larger.bit (omega arith) (omega arith) (omega arith)
+      | else-larger w ↦ no_digits_tried n 32 c.if-larger.bit (omega arith) (omega arith) (omega arith)
     ]
 
 loop-holds : tie.Need-loop-bit-init invariant-loop decreases-loop

@@ -13,10 +13,10 @@ use Rattle.latitudes.specs.InnerRounding.{half_unit, safe}
 use Rattle.latitudes.proofs.is_safe.Statement.{statement}
 use Rattle.latitudes.proofs.is_safe.Tie as tie
 
-mul-magnitude : tie.Need-overflow-mul-magnitude
+mul-magnitude : tie.Need-overflow_mul-y
 mul-magnitude c = fits (search code depth 40 fits 20000) tt
 
-sub-magnitude : tie.Need-overflow-sub-magnitude
+sub-magnitude : tie.Need-overflow_sub-about
 sub-magnitude c = fits (search code depth 40 fits 20000) tt
 
 magnitude-requires : tie.Need-magnitude-requires
@@ -28,19 +28,19 @@ module _ (c : tie.After-magnitude) where
 
   distance_is : c.magnitude.result ≡ nat_abs (start.args.about -ℤ start.args.y *ℤ U)
   distance_is =
-      (rw as_size at c.magnitude.ensures) ∙ read_abs (search (code, start.pre.0, start.pre.1) depth 40 fits 20000) tt
+      (rw as_size at c.magnitude.ensures) ∙ read_abs (search (code, start.requires.0, start.requires.1) depth 40 fits 20000) tt
 
   distance-small : c.magnitude.result ≤ 2 ^ 63
   distance-small =
-      rw (c.magnitude.ensures, as_size) (read_size (search (code, start.pre.0, start.pre.1) depth 40 fits 20000) tt)
+      rw (c.magnitude.ensures, as_size) (read_size (search (code, start.requires.0, start.requires.1) depth 40 fits 20000) tt)
 
-add-result : tie.Need-overflow-add-result
+add-result : tie.Need-overflow_add-result
 add-result c = omega (arith, distance-small c, (start c).requires.2)
 
 returns : tie.Need-returns
 unfolding safe
 returns c = ap (λ (n : ℕ). ltb (n + (start c).args.error) half_unit) (distance_is c)
 
-pub is-safe-spec : {M : Type 1} → statement M
-is-safe-spec =
+pub is_safe_spec : {M : Type 1} → statement M
+is_safe_spec =
     tie.close (tie.spec mul-magnitude sub-magnitude magnitude-requires add-result returns)

@@ -4,13 +4,13 @@ use mir.Facts.{to_z-of_z}
 use Rattle.latitudes.proofs.terms_error.Statement.{statement}
 use Rattle.latitudes.proofs.terms_error.Tie as tie
 
-weighted-sum-requires : tie.Need-weighted-sum-requires
+weighted-sum-requires : tie.Need-weighted_sum-requires
 weighted-sum-requires c κs = search rules
 
 returns : tie.Need-returns
 returns c =
     let f = c.before.ranges in
-    rw (to_z-of_z f.k2, to_z-of_z f.k4, to_z-of_z f.k6) at c.weighted-sum.ensures
+    rw (to_z-of_z f.k2, to_z-of_z f.k4, to_z-of_z f.k6) at c.weighted_sum.ensures
 
-pub terms-error-spec : {M : Type 1} → statement M
-terms-error-spec = tie.close (tie.spec weighted-sum-requires returns)
+pub terms_error_spec : {M : Type 1} → statement M
+terms_error_spec = tie.close (tie.spec weighted-sum-requires returns)

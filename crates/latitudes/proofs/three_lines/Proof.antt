@@ -39,7 +39,7 @@ gap_by : (s : ℤ) {r v : ℤ} {e : ℕ} → r ≡ v → nat_abs (v -ℤ s) ≤ 
 unfolding gap
 gap_by s f h = rw f h
 
-module _ (c : tie.After-sine-by-minute) where
+module _ (c : tie.After-sine_by_minute-six) where
   abbrev start : tie.Start
   start = c.before.before.before
 
@@ -47,49 +47,49 @@ module _ (c : tie.After-sine-by-minute) where
   x = start.args.x
 
   record Sines : Type 0 where
-    pub two : Nearly c.before.before.sine-by-line.result (pos 2 *ℤ x) line_error
-    pub four : Nearly c.before.sine-by-line2.result (pos 4 *ℤ x) line_error
-    pub six : Nearly c.sine-by-minute.result (pos 6 *ℤ x) minute_error
+    pub two : Nearly c.before.before.sine_by_line-two.result (pos 2 *ℤ x) line_error
+    pub four : Nearly c.before.sine_by_line-four.result (pos 4 *ℤ x) line_error
+    pub six : Nearly c.sine_by_minute-six.result (pos 6 *ℤ x) minute_error
 
   sines : Sines
   sines =
       record {
-        two = nearly _ _ _ c.before.before.sine-by-line.ensures (read (search (code, start.pre.2) depth 40 fits 20000) tt);
-        four = nearly _ _ _ c.before.sine-by-line2.ensures (read (search (code, start.pre.2) depth 40 fits 20000) tt);
-        six = nearly _ _ _ c.sine-by-minute.ensures (read (search (code, start.pre.2) depth 40 fits 20000) tt);
+        two = nearly _ _ _ c.before.before.sine_by_line-two.ensures (read (search (code, start.requires.2) depth 40 fits 20000) tt);
+        four = nearly _ _ _ c.before.sine_by_line-four.ensures (read (search (code, start.requires.2) depth 40 fits 20000) tt);
+        six = nearly _ _ _ c.sine_by_minute-six.ensures (read (search (code, start.requires.2) depth 40 fits 20000) tt);
       }
 
-mul-sine-by-line : tie.Need-overflow-mul-sine-by-line
+mul-sine-by-line : tie.Need-overflow_mul-x
 mul-sine-by-line c = fits (search code depth 40 fits 20000) tt
 
-sine-by-line-requires : tie.Need-sine-by-line-requires
+sine-by-line-requires : tie.Need-sine_by_line-two-requires
 sine-by-line-requires c κs = search rules
 
-mul-sine-by-line-2 : tie.Need-overflow-mul-sine-by-line-2
+mul-sine-by-line-2 : tie.Need-overflow_mul-x-2
 mul-sine-by-line-2 c = fits (search code depth 40 fits 20000) tt
 
-sine-by-line-requires-2 : tie.Need-sine-by-line-requires-2
+sine-by-line-requires-2 : tie.Need-sine_by_line-four-requires
 sine-by-line-requires-2 c κs = search rules
 
-mul-sine-by-minute : tie.Need-overflow-mul-sine-by-minute
+mul-sine-by-minute : tie.Need-overflow_mul-x-3
 mul-sine-by-minute c = fits (search code depth 40 fits 20000) tt
 
-sine-by-minute-requires : tie.Need-sine-by-minute-requires
+sine-by-minute-requires : tie.Need-sine_by_minute-six-requires
 sine-by-minute-requires c κs = search rules
 
-mul-result : tie.Need-overflow-mul-result
+mul-result : tie.Need-overflow_mul-result
 mul-result c = let s = sines c in fits (search code depth 40 fits 20000) tt
 
-mul-result-2 : tie.Need-overflow-mul-result-2
+mul-result-2 : tie.Need-overflow_mul-result-2
 mul-result-2 c = let s = sines c in fits (search code depth 40 fits 20000) tt
 
-sub-result : tie.Need-overflow-sub-result
+sub-result : tie.Need-overflow_sub-result
 sub-result c = let s = sines c in fits (search code depth 40 fits 20000) tt
 
-mul-result-3 : tie.Need-overflow-mul-result-3
+mul-result-3 : tie.Need-overflow_mul-result-3
 mul-result-3 c = let s = sines c in fits (search code depth 40 fits 20000) tt
 
-add-result : tie.Need-overflow-add-result
+add-result : tie.Need-overflow_add-result
 add-result c = let s = sines c in fits (search code depth 40 fits 20000) tt
 
 returns : tie.Need-returns
@@ -102,8 +102,8 @@ returns c =
     (read (search (code, k.k2_size, k.k4_size, k.k6_size, s.two.size, s.four.size, s.six.size) depth 40 fits 20000) tt)
     (terms_apart (start c).args.k2 (start c).args.k4 (start c).args.k6 _ _ _ _ _ _ s.two.close s.four.close s.six.close))
 
-pub three-lines-spec : {M : Type 1} → statement M
-three-lines-spec =
+pub three_lines_spec : {M : Type 1} → statement M
+three_lines_spec =
     tie.close
     (tie.spec
     mul-sine-by-line

@@ -19,7 +19,7 @@ correction-requires c κs = search rules
 correction-size : (c : tie.After-correction) → nat_abs c.correction.result ≤ 692_510
 correction-size c = rw c.correction.ensures (rounded_size (start c).args.k (start c).requires.1 (start c).args.lat.0)
 
-sub-t6 : tie.Need-overflow-sub-t6
+sub-t6 : tie.Need-overflow_sub-result
 sub-t6 c = fits (search (code, (start c).requires.2, correction-size c) depth 40 fits 20000) tt
 
 returns : tie.Need-returns
@@ -29,5 +29,5 @@ returns c =
     (read (search (code, (start c).requires.2, correction-size c) depth 40 fits 20000) tt
     ∙ ap (λ (x : ℤ). (start c).args.lat.0 -ℤ x) c.correction.ensures)
 
-pub to-authalic-spec : {M : Type 1} → statement M
-to-authalic-spec = tie.close (tie.spec correction-requires sub-t6 returns)
+pub to_authalic_spec : {M : Type 1} → statement M
+to_authalic_spec = tie.close (tie.spec correction-requires sub-t6 returns)

@@ -26,48 +26,48 @@ sized k f e h s =
 summed : (a b c : ℕ) {x x' y y' z z' : ℕ} → x ≡ x' → y ≡ y' → z ≡ z' → a * x + b * y + c * z ≡ a * x' + b * y' + c * z'
 summed a b c e f g = rw (e, f, g)
 
-module _ (c : tie.After-magnitude3) where
+module _ (c : tie.After-magnitude-six) where
   abbrev start : tie.Start
   start = c.before.before.before
 
-  two : Sized start.args.a c.before.before.magnitude.result start.args.k2 45_000_000
-  two = sized _ start.fits.k2 c.before.before.magnitude.ensures start.pre.1 start.pre.0.k2_size
+  two : Sized start.args.a c.before.before.magnitude-two.result start.args.k2 45_000_000
+  two = sized _ start.ranges.k2 c.before.before.magnitude-two.ensures start.requires.1 start.requires.0.k2_size
 
-  four : Sized start.args.b c.before.magnitude2.result start.args.k4 250_000
-  four = sized _ start.fits.k4 c.before.magnitude2.ensures start.pre.2 start.pre.0.k4_size
+  four : Sized start.args.b c.before.magnitude-four.result start.args.k4 250_000
+  four = sized _ start.ranges.k4 c.before.magnitude-four.ensures start.requires.2 start.requires.0.k4_size
 
-  six : Sized start.args.c c.magnitude3.result start.args.k6 3_000
-  six = sized _ start.fits.k6 c.magnitude3.ensures start.pre.3 start.pre.0.k6_size
+  six : Sized start.args.c c.magnitude-six.result start.args.k6 3_000
+  six = sized _ start.ranges.k6 c.magnitude-six.ensures start.requires.3 start.requires.0.k6_size
 
-magnitude-requires : tie.Need-magnitude-requires
+magnitude-requires : tie.Need-magnitude-two-requires
 magnitude-requires c κs = search rules
 
-magnitude-requires-2 : tie.Need-magnitude-requires-2
+magnitude-requires-2 : tie.Need-magnitude-four-requires
 magnitude-requires-2 c κs = search rules
 
-magnitude-requires-3 : tie.Need-magnitude-requires-3
+magnitude-requires-3 : tie.Need-magnitude-six-requires
 magnitude-requires-3 c κs = search rules
 
-mul-result : tie.Need-overflow-mul-result
+mul-result : tie.Need-overflow_mul-result
 mul-result c = omega (arith, (two c).small)
 
-mul-result-2 : tie.Need-overflow-mul-result-2
+mul-result-2 : tie.Need-overflow_mul-result-2
 mul-result-2 c = omega (arith, (four c).small)
 
-add-result : tie.Need-overflow-add-result
+add-result : tie.Need-overflow_add-result
 add-result c = omega (arith, (two c).small, (four c).small)
 
-mul-result-3 : tie.Need-overflow-mul-result-3
+mul-result-3 : tie.Need-overflow_mul-result-3
 mul-result-3 c = omega (arith, (six c).small)
 
-add-result-2 : tie.Need-overflow-add-result-2
+add-result-2 : tie.Need-overflow_add-result-2
 add-result-2 c = omega (arith, (two c).small, (four c).small, (six c).small)
 
 returns : tie.Need-returns
 returns c = let a = (start c).args in summed a.a a.b a.c (two c).is (four c).is (six c).is
 
-pub weighted-sum-spec : {M : Type 1} → statement M
-weighted-sum-spec =
+pub weighted_sum_spec : {M : Type 1} → statement M
+weighted_sum_spec =
     tie.close
     (tie.spec
     magnitude-requires

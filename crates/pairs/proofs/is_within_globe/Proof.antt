@@ -6,10 +6,10 @@ use Rattle.pairs.specs.Pairs.{within_globe}
 use Rattle.pairs.proofs.is_within_globe.Statement.{statement}
 use Rattle.pairs.proofs.is_within_globe.Tie as tie
 
-is-latitude-requires : tie.Need-is-latitude-requires
+is-latitude-requires : tie.Need-is_latitude-requires
 is-latitude-requires c κs = search rules
 
-is-longitude-requires : tie.Need-is-longitude-requires
+is-longitude-requires : tie.Need-is_longitude-requires
 is-longitude-requires c κs = search rules
 
 both-requires : tie.Need-both-requires
@@ -17,7 +17,7 @@ both-requires c κs = search rules
 
 returns : tie.Need-returns
 unfolding within_globe
-returns c = c.both.ensures ∙ ap₂ ◌&&◌ c.before.before.is-latitude.ensures c.before.is-longitude.ensures
+returns c = c.both.ensures ∙ ap₂ ◌&&◌ c.before.before.is_latitude.ensures c.before.is_longitude.ensures
 
-pub is-within-globe-spec : {M : Type 1} → statement M
-is-within-globe-spec = tie.close (tie.spec is-latitude-requires is-longitude-requires both-requires returns)
+pub is_within_globe_spec : {M : Type 1} → statement M
+is_within_globe_spec = tie.close (tie.spec is-latitude-requires is-longitude-requires both-requires returns)

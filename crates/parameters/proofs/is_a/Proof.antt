@@ -8,12 +8,12 @@ use Rattle.parameters.specs.ParameterSet.{accepted_a}
 use Rattle.parameters.proofs.is_a.Statement.{statement}
 use Rattle.parameters.proofs.is_a.Tie as tie
 
-is-within-requires : tie.Need-is-within-requires
+is-within-requires : tie.Need-is_within-requires
 is-within-requires c κs = search rules
 
 returns : tie.Need-returns
 unfolding accepted_a
-returns c = c.is_Within.ensures ∙ ap (within (pos 100_000_000) (pos 1_000_000_000)) (to_z-of_z c.before.ranges.a)
+returns c = c.is_within.ensures ∙ ap (within (pos 100_000_000) (pos 1_000_000_000)) (to_z-of_z c.before.ranges.a)
 
-pub is-a-spec : {M : Type 1} → statement M
-is-a-spec = tie.close (tie.spec is-within-requires returns)
+pub is_a_spec : {M : Type 1} → statement M
+is_a_spec = tie.close (tie.spec is-within-requires returns)

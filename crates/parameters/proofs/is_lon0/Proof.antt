@@ -12,22 +12,22 @@ use Rattle.parameters.proofs.is_lon0.Tie as tie
 abbrev least : ℤ
 least = neg_ℤ (pos 648_000_000)
 
-returns : tie.Need-returns
+returns : tie.Need-returns-then-lon0-le-LON0_ABOVE
 unfolding accepted_lon0
 returns c =
     let start = c.before in
     let lon0 : ℤ = start.args.lon0 in
-    let low : le_z lon0 least ≡ _ = sym (ap (λ (z : ℤ). le_z z least) (to_z-of_z start.ranges.lon0)) ∙ c.if1.true in
+    let low : le_z lon0 least ≡ _ = sym (ap (λ (z : ℤ). le_z z least) (to_z-of_z start.ranges.lon0)) ∙ c.if-lon0-le-LON0_ABOVE.true in
     sym (ap (λ (b : Bool). b && le_z lon0 (pos 648_000_000)) (le_lt_z (le_z_true lon0 least low)))
 
-returns-2 : tie.Need-returns-2
+returns-2 : tie.Need-returns
 unfolding accepted_lon0
 returns-2 c =
     let start = c.before in
     let lon0 : ℤ = start.args.lon0 in
-    let high : le_z lon0 least ≡ _ = sym (ap (λ (z : ℤ). le_z z least) (to_z-of_z start.ranges.lon0)) ∙ c.if1.false in
+    let high : le_z lon0 least ≡ _ = sym (ap (λ (z : ℤ). le_z z least) (to_z-of_z start.ranges.lon0)) ∙ c.if-lon0-le-LON0_ABOVE.false in
     ap (λ (z : ℤ). le_z z (pos 648_000_000)) (to_z-of_z start.ranges.lon0)
     ∙ sym (ap (λ (b : Bool). b && le_z lon0 (pos 648_000_000)) (lt_lt_z (le_z_false lon0 least high)))
 
-pub is-lon0-spec : {M : Type 1} → statement M
-is-lon0-spec = tie.close (tie.spec returns returns-2)
+pub is_lon0_spec : {M : Type 1} → statement M
+is_lon0_spec = tie.close (tie.spec returns returns-2)

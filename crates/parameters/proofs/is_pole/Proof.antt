@@ -15,32 +15,32 @@ use Rattle.parameters.proofs.is_pole.Tie as tie
 abbrev south : ℤ
 south = neg_ℤ (pos right_angle)
 
-is-within-requires : tie.Need-is-within-requires
+is-within-requires : tie.Need-is_within-requires
 is-within-requires c κs = search rules
 
-latitude-fits : (c : tie.After-struct-told) → SFits w64 c.before.args.lat0.0
+latitude-fits : (c : tie.After-struct_told-1) → SFits w64 c.before.args.lat0.0
 latitude-fits c = search rules
 
-north-is : (c : tie.After-is-within) → c.is_Within.result ≡ same c.before.before.args.lat0.0 (pos right_angle)
+north-is : (c : tie.After-is_within) → c.is_within.result ≡ same c.before.before.args.lat0.0 (pos right_angle)
 unfolding same
-north-is c = c.is_Within.ensures ∙ ap (within (pos right_angle) (pos right_angle)) (to_z-of_z (latitude-fits c.before))
+north-is c = c.is_within.ensures ∙ ap (within (pos right_angle) (pos right_angle)) (to_z-of_z (latitude-fits c.before))
 
-returns : tie.Need-returns
+returns : tie.Need-returns-then-is_within
 unfolding polar
 returns c =
     let φ0 = c.before.before.before.args.lat0.0 in
-    sym (ap (λ (b : Bool). b || same φ0 south) (sym (north-is c.before) ∙ c.if1.true))
+    sym (ap (λ (b : Bool). b || same φ0 south) (sym (north-is c.before) ∙ c.if-is_within.true))
 
-is-within-requires-2 : tie.Need-is-within-requires-2
+is-within-requires-2 : tie.Need-is_within-requires-2
 is-within-requires-2 c κs = search rules
 
-returns-2 : tie.Need-returns-2
+returns-2 : tie.Need-returns
 unfolding polar same
 returns-2 c =
     let φ0 = c.before.before.before.before.args.lat0.0 in
-    c.is-within2.ensures
+    c.is_within-2.ensures
     ∙ ap (within south south) (to_z-of_z (latitude-fits c.before.before.before))
-    ∙ sym (ap (λ (b : Bool). b || same φ0 south) (sym (north-is c.before.before) ∙ c.before.if1.false))
+    ∙ sym (ap (λ (b : Bool). b || same φ0 south) (sym (north-is c.before.before) ∙ c.before.if-is_within.false))
 
-pub is-pole-spec : {M : Type 1} → statement M
-is-pole-spec = tie.close (tie.spec is-within-requires returns is-within-requires-2 returns-2)
+pub is_pole_spec : {M : Type 1} → statement M
+is_pole_spec = tie.close (tie.spec is-within-requires returns is-within-requires-2 returns-2)

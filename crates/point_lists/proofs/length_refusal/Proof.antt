@@ -15,7 +15,7 @@ both-requires c κs = search rules
 both-requires-2 : tie.Need-both-requires-2
 both-requires-2 c κs = search rules
 
-both-requires-3 : tie.Need-both-requires-3
+both-requires-3 : tie.Need-both-equal-requires
 both-requires-3 c κs = search rules
 
 unless-requires : tie.Need-unless-requires
@@ -34,13 +34,13 @@ returns c =
     let long = c.before in
     let all = long.before in
     let a = all.before.before.before.args in
-    c.unless2.ensures
+    c.unless-2.ensures
     ∙ ap₂ (λ (t : Bool) (n : ℕ). unless t unequal_lists n)
     (all-equal (eqb a.b a.a) (eqb a.c a.a) (eqb a.d a.a) (eqb a.e a.a) all.before.before.both.ensures
-    all.before.both2.ensures all.both3.ensures)
+    all.before.both-2.ensures all.both-equal.ensures)
     long.unless.ensures
 
-pub length-refusal-spec : {M : Type 1} → statement M
-length-refusal-spec =
+pub length_refusal_spec : {M : Type 1} → statement M
+length_refusal_spec =
     tie.close
     (tie.spec both-requires both-requires-2 both-requires-3 unless-requires unless-requires-2 returns)

@@ -6,14 +6,14 @@ use Rattle.units.proofs.AnswerLaws.{is_refused_lem}
 use Rattle.points.proofs.degrees_unless.Statement.{statement}
 use Rattle.points.proofs.degrees_unless.Tie as tie
 
-returns : tie.Need-returns
-returns c = sym (is_refused_lem Refused _ _ c.if1.true)
+returns : tie.Need-returns-then-number-ne0
+returns c = sym (is_refused_lem Refused _ _ c.if-number-ne0.true)
 
-in-degrees-requires : tie.Need-in-degrees-requires
+in-degrees-requires : tie.Need-in_degrees-requires
 in-degrees-requires c κs = search rules
 
-returns-2 : tie.Need-returns-2
+returns-2 : tie.Need-returns
 returns-2 c = search rules
 
-pub degrees-unless-spec : {M : Type 1} → statement M
-degrees-unless-spec = tie.close (tie.spec returns in-degrees-requires returns-2)
+pub degrees_unless_spec : {M : Type 1} → statement M
+degrees_unless_spec = tie.close (tie.spec returns in-degrees-requires returns-2)

@@ -8,27 +8,27 @@ use Rattle.points.proofs.AnswerLaws.{forward_tells, forward_set_refused}
 use Rattle.points.proofs.forward_degrees.Statement.{statement}
 use Rattle.points.proofs.forward_degrees.Tie as tie
 
-refusal-requires : tie.Need-refusal-requires
+refusal-requires : tie.Need-refusal-refusal-requires
 refusal-requires c κs = search rules
 
-returns : tie.Need-returns
+returns : tie.Need-returns-then-refusal-ne0
 returns c =
-    let refusal = c.before.refusal in
-    and_told plane_row (forward_tells _ _) (sym (forward_set_refused _ _ refusal.result c.if1.true (sym refusal.ensures)))
+    let refusal = c.before.refusal-refusal in
+    and_told plane_row (forward_tells _ _) (sym (forward_set_refused _ _ refusal.result c.if-refusal-ne0.true (sym refusal.ensures)))
 
-table-requires : tie.Need-table-requires
+table-requires : tie.Need-table-t-requires
 table-requires c κs = search rules
 
-constants-of-requires : tie.Need-constants-of-requires
+constants-of-requires : tie.Need-constants_of-requires
 constants-of-requires c κs = search rules
 
-forward-pair-requires : tie.Need-forward-pair-requires
+forward-pair-requires : tie.Need-forward_pair-requires
 forward-pair-requires c κs = search rules
 
-returns-2 : tie.Need-returns-2
-returns-2 c = and_told plane_row (forward_tells _ _) c.forward-pair.ensures
+returns-2 : tie.Need-returns
+returns-2 c = and_told plane_row (forward_tells _ _) c.forward_pair.ensures
 
-pub forward-degrees-spec : {M : Type 1} → statement M
-forward-degrees-spec =
+pub forward_degrees_spec : {M : Type 1} → statement M
+forward_degrees_spec =
     tie.close
     (tie.spec refusal-requires returns table-requires constants-of-requires forward-pair-requires returns-2)

@@ -8,27 +8,27 @@ use Rattle.points.proofs.AnswerLaws.{inverse_tells, inverse_set_refused}
 use Rattle.points.proofs.inverse_metres.Statement.{statement}
 use Rattle.points.proofs.inverse_metres.Tie as tie
 
-refusal-requires : tie.Need-refusal-requires
+refusal-requires : tie.Need-refusal-refusal-requires
 refusal-requires c κs = search rules
 
-returns : tie.Need-returns
+returns : tie.Need-returns-then-refusal-ne0
 returns c =
-    let refusal = c.before.refusal in
-    and_told geodetic_row (inverse_tells _ _) (sym (inverse_set_refused _ _ refusal.result c.if1.true (sym refusal.ensures)))
+    let refusal = c.before.refusal-refusal in
+    and_told geodetic_row (inverse_tells _ _) (sym (inverse_set_refused _ _ refusal.result c.if-refusal-ne0.true (sym refusal.ensures)))
 
-table-requires : tie.Need-table-requires
+table-requires : tie.Need-table-t-requires
 table-requires c κs = search rules
 
-constants-of-requires : tie.Need-constants-of-requires
+constants-of-requires : tie.Need-constants_of-requires
 constants-of-requires c κs = search rules
 
-inverse-pair-requires : tie.Need-inverse-pair-requires
+inverse-pair-requires : tie.Need-inverse_pair-requires
 inverse-pair-requires c κs = search rules
 
-returns-2 : tie.Need-returns-2
-returns-2 c = and_told geodetic_row (inverse_tells _ _) c.inverse-pair.ensures
+returns-2 : tie.Need-returns
+returns-2 c = and_told geodetic_row (inverse_tells _ _) c.inverse_pair.ensures
 
-pub inverse-metres-spec : {M : Type 1} → statement M
-inverse-metres-spec =
+pub inverse_metres_spec : {M : Type 1} → statement M
+inverse_metres_spec =
     tie.close
     (tie.spec refusal-requires returns table-requires constants-of-requires inverse-pair-requires returns-2)

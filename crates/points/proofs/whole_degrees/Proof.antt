@@ -13,66 +13,66 @@ use Rattle.points.proofs.StageLaws.{tested_not_finite, tested_beyond, tested_pas
 use Rattle.points.proofs.whole_degrees.Statement.{statement}
 use Rattle.points.proofs.whole_degrees.Tie as tie
 
-are-finite-requires : tie.Need-are-finite-requires
+are-finite-requires : tie.Need-are_finite-requires
 are-finite-requires c κs = search rules
 
 refused-requires : tie.Need-refused-requires
 refused-requires c κs = search rules
 
-returns : tie.Need-returns
+returns : tie.Need-returns-then-not-are_finite
 returns c =
-    let test = c.before.before.are-finite in
-    c.refused.ensures ∙ sym (tested_not_finite _ _ _ _ (sym test.ensures ∙ not-true test.result c.before.if1.true))
+    let test = c.before.before.are_finite in
+    c.refused.ensures ∙ sym (tested_not_finite _ _ _ _ (sym test.ensures ∙ c.before.if-not-are_finite.true))
 
-is-within-globe-requires : tie.Need-is-within-globe-requires
+is-within-globe-requires : tie.Need-is_within_globe-requires
 is-within-globe-requires c κs = search rules
 
-finite : (c : tie.Else1) → are_finite c.before.before.args.at.latitude c.before.before.args.at.longitude ≡ true
-finite c = sym c.before.are-finite.ensures ∙ not-false c.before.are-finite.result c.if1.false
+finite : (c : tie.Else-not-are_finite) → are_finite c.before.before.args.at.latitude c.before.before.args.at.longitude ≡ true
+finite c = sym c.before.are_finite.ensures ∙ c.if-not-are_finite.false
 
-refused-requires-2 : tie.Need-refused-requires-2
+refused-requires-2 : tie.Need-refused-requires-then-not-is_within_globe
 refused-requires-2 c κs = search rules
 
-returns-2 : tie.Need-returns-2
+returns-2 : tie.Need-returns-then-not-is_within_globe
 returns-2 c =
-    let test = c.before.before.is-within-globe in
-    c.refused2.ensures
-    ∙ sym (tested_beyond _ _ _ _ (finite c.before.before.before) (sym test.ensures ∙ not-true test.result c.before.if2.true))
+    let test = c.before.before.is_within_globe in
+    c.refused-then-not-is_within_globe.ensures
+    ∙ sym (tested_beyond _ _ _ _ (finite c.before.before.before) (sym test.ensures ∙ c.before.if-not-is_within_globe.true))
 
 -- both coordinates are within their limits
-abbrev start : tie.Else2 → tie.Start
+abbrev start : tie.Else-not-is_within_globe → tie.Start
 start c = c.before.before.before.before
 
-inside : (c : tie.Else2) → within_globe (start c).args.at ≡ true
-inside c = sym c.before.is-within-globe.ensures ∙ not-false c.before.is-within-globe.result c.if2.false
+inside : (c : tie.Else-not-is_within_globe) → within_globe (start c).args.at ≡ true
+inside c = sym c.before.is_within_globe.ensures ∙ c.if-not-is_within_globe.false
 
 within-limits :
-    (c : tie.Else2) →
+    (c : tie.Else-not-is_within_globe) →
     (within_limit latitude_limit (start c).args.at.latitude ≡ true) × (within_limit longitude_limit (start c).args.at.longitude ≡ true)
 unfolding within_globe
 within-limits c = both _ _ (inside c)
 
-degrees-to-mas-requires : tie.Need-degrees-to-mas-requires
+degrees-to-mas-requires : tie.Need-degrees_to_mas-requires
 degrees-to-mas-requires c κs = latitude_is_longitude _ (within-limits c).0
 
-degrees-to-mas-requires-2 : tie.Need-degrees-to-mas-requires-2
+degrees-to-mas-requires-2 : tie.Need-degrees_to_mas-requires-2
 degrees-to-mas-requires-2 c κs = (within-limits c.before).1
 
 accepted-requires : tie.Need-accepted-requires
 accepted-requires c κs = search rules
 
-returns-3 : tie.Need-returns-3
+returns-3 : tie.Need-returns
 unfolding latitude_mas longitude_mas
 returns-3 c =
     let known = c.before.before.before in
-    let first = c.before.before.degrees-to-mas in
-    let second = c.before.degrees-to-mas2 in
+    let first = c.before.before.degrees_to_mas in
+    let second = c.before.degrees_to_mas-2 in
     c.accepted.ensures
-    ∙ ap₂ accepted (returned first.type-inv ∙ first.ensures) (returned second.type-inv ∙ second.ensures)
+    ∙ ap₂ accepted (returned first.type_inv ∙ first.ensures) (returned second.type_inv ∙ second.ensures)
     ∙ sym (tested_passed _ _ _ _ (finite known.before.before) (inside known))
 
-pub whole-degrees-spec : {M : Type 1} → statement M
-whole-degrees-spec =
+pub whole_degrees_spec : {M : Type 1} → statement M
+whole_degrees_spec =
     tie.close
     (tie.spec
     are-finite-requires

@@ -26,10 +26,10 @@ small a b c f g h =
     le_trans (near_bound ((a +ℤ b +ℤ c) *ℤ pos 206_264_806) unit (lit< tt)
     (abs_mul_le (a +ℤ b +ℤ c) (pos 206_264_806) (abs_add_le (a +ℤ b) c (abs_add_le a b f g) h) (le_refl 206_264_806))) (lit≤ tt)
 
-add-product : tie.Need-overflow-add-product
+add-product : tie.Need-overflow_add-a
 add-product c = fits (search code depth 40 fits 20000) tt
 
-add-product-2 : tie.Need-overflow-add-product-2
+add-product-2 : tie.Need-overflow_add-a-2
 add-product-2 c = fits (search code depth 40 fits 20000) tt
 
 product-requires : tie.Need-product-requires
@@ -39,7 +39,7 @@ product_is : (c : tie.After-product) → let a = c.before.args in back c.product
 unfolding to_mas
 product_is c =
     let given = c.before.requires in
-    returned c.product.type-inv
+    returned c.product.type_inv
     ∙ c.product.ensures
     ∙ ap (λ (z : ℤ). near z unit) (read (search (code, given.0, given.1, given.2) depth 40 fits 20000) tt)
 
@@ -49,5 +49,5 @@ returns c =
     let given = c.before.requires in
     (product_is c, rw (product_is c) (small a.a a.b a.c given.0 given.1 given.2))
 
-pub in-mas-spec : {M : Type 1} → statement M
-in-mas-spec = tie.close (tie.spec add-product add-product-2 product-requires returns)
+pub in_mas_spec : {M : Type 1} → statement M
+in_mas_spec = tie.close (tie.spec add-product add-product-2 product-requires returns)

@@ -26,7 +26,7 @@ module _ (c : tie.Start) where
   small : nat_abs (near exact c.args.d) ≤ 11_000_000
   small = omega (arith, near_size exact c.args.d, nearest_le (nat_abs exact) c.args.d c.requires.1)
 
-mul-near : tie.Need-overflow-mul-near
+mul-near : tie.Need-overflow_mul-n
 mul-near c = fits_is (product_is c) c.requires.0 (lit< tt)
 
 near-requires : tie.Need-near-requires
@@ -34,8 +34,8 @@ near-requires c κs = (c.requires.1, rw (passed_on c) (omega arith))
 
 returns : tie.Need-returns
 returns c =
-    let e = near_is c.near.type-inv c.before.args.d c.near.ensures (passed_on c.before) in
+    let e = near_is c.near.type_inv c.before.args.d c.near.ensures (passed_on c.before) in
     (e, rw e (small c.before))
 
-pub term-spec : {M : Type 1} → statement M
-term-spec = tie.close (tie.spec mul-near near-requires returns)
+pub term_spec : {M : Type 1} → statement M
+term_spec = tie.close (tie.spec mul-near near-requires returns)

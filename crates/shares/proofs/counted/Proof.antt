@@ -4,13 +4,13 @@ use Rattle.shares.specs.Shares.{of_loop}
 use Rattle.shares.proofs.counted.Statement.{statement}
 use Rattle.shares.proofs.counted.Tie as tie
 
-returns : tie.Need-returns
+returns : tie.Need-returns-then-slot-loop_number
 unfolding of_loop
-returns c = rw (eq-eqb _ _ c.if1.true)
+returns c = rw (eq-eqb _ _ c.if-slot-loop_number.true)
 
-returns-2 : tie.Need-returns-2
+returns-2 : tie.Need-returns-else-slot-loop_number
 unfolding of_loop
-returns-2 c = rw (ne_eqb _ _ c.if1.false)
+returns-2 c = rw (ne_eqb _ _ c.if-slot-loop_number.false)
 
 pub counted_spec : {M : Type 1} → statement M
 counted_spec = tie.close (tie.spec returns returns-2)

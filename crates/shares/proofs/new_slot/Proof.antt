@@ -6,22 +6,22 @@ use Rattle.shares.specs.Shares.{new_slot}
 use Rattle.shares.proofs.new_slot.Statement.{statement}
 use Rattle.shares.proofs.new_slot.Tie as tie
 
-is-granted-requires : tie.Need-is-granted-requires
+is-granted-requires : tie.Need-is_granted-requires
 is-granted-requires c κs = search rules
 
-free-slot-requires : tie.Need-free-slot-requires
+free-slot-requires : tie.Need-free_slot-requires
 free-slot-requires c κs = search rules
 
-returns : tie.Need-returns
+returns : tie.Need-returns-then-is_granted
 unfolding new_slot
-returns c = rw (sym c.before.before.is-granted.ensures ∙ c.before.if1.true) c.free-slot.ensures
+returns c = rw (sym c.before.before.is_granted.ensures ∙ c.before.if-is_granted.true) c.free_slot.ensures
 
-returns-2 : tie.Need-returns-2
+returns-2 : tie.Need-returns
 unfolding new_slot
-returns-2 c = rw (sym c.before.is-granted.ensures ∙ c.if1.false) (sym (all c.before.before))
+returns-2 c = rw (sym c.before.is_granted.ensures ∙ c.if-is_granted.false) (sym (all c.before.before))
   where
     all : (c : tie.Start) → length c.args.slots ≡ 256
-    all c = c.well-formed.0.1.0.1
+    all c = c.well_formed.0.1.0.1
 
-pub new-slot-spec : {M : Type 1} → statement M
-new-slot-spec = tie.close (tie.spec is-granted-requires free-slot-requires returns returns-2)
+pub new_slot_spec : {M : Type 1} → statement M
+new_slot_spec = tie.close (tie.spec is-granted-requires free-slot-requires returns returns-2)

@@ -35,5 +35,5 @@ returns : tie.Need-returns
 unfolding entry entries_from
 returns c = is-table _ refl tt
 
-pub table-spec : {M : Type 1} → statement M
-table-spec = tie.close (tie.spec returns)
+pub table_spec : {M : Type 1} → statement M
+table_spec = tie.close (tie.spec returns)

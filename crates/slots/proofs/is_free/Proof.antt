@@ -8,5 +8,5 @@ returns : tie.Need-returns
 unfolding free
 returns c = refl
 
-pub is-free-spec : {M : Type 1} → statement M
-is-free-spec = tie.close (tie.spec returns)
+pub is_free_spec : {M : Type 1} → statement M
+is_free_spec = tie.close (tie.spec returns)

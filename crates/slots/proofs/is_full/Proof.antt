@@ -22,21 +22,21 @@ either count overloads h = decided (leb (1_000_000 - count) overloads) refl
         let few : count + overloads < 1_000_000 = omega (arith, leb-false (1_000_000 - count) overloads e) in
         e ∙ sym (lt-leb 1_000_000 (count + overloads) few)
 
-returns : tie.Need-returns
+returns : tie.Need-returns-then-slot-ge-READINGS_MOST
 unfolding full
 returns c =
     let slot = c.before.before.args.slot in
     let many : 1_000_000 ≤ slot.count + slot.overloads = omega arith in
     sym (le-leb 1_000_000 (slot.count + slot.overloads) many)
 
-sub-result : tie.Need-overflow-sub-result
+sub-result : tie.Need-overflow_sub-result
 sub-result c = search rules
 
-returns-2 : tie.Need-returns-2
+returns-2 : tie.Need-returns
 unfolding full
 returns-2 c =
     let slot = c.before.before.before.before.args.slot in
     either slot.count slot.overloads (omega arith)
 
-pub is-full-spec : {M : Type 1} → statement M
-is-full-spec = tie.close (tie.spec returns sub-result returns-2)
+pub is_full_spec : {M : Type 1} → statement M
+is_full_spec = tie.close (tie.spec returns sub-result returns-2)

@@ -21,13 +21,13 @@ magnitude-requires : tie.Need-magnitude-requires
 magnitude-requires c κs = search rules
 
 z-is : (c : tie.After-magnitude) → c.magnitude.result ≡ nat_abs (start-at-magnitude c).args.s.z
-z-is c = let s = start-at-magnitude c in magnitude_is s.args.s.z s.pre.1.z_size (lit< tt) c.magnitude.ensures
+z-is c = let s = start-at-magnitude c in magnitude_is s.args.s.z s.requires.1.z_size (lit< tt) c.magnitude.ensures
 
 angle-requires : tie.Need-angle-requires
 angle-requires c κs =
     let start = start-at-magnitude c in
-    let small = start.pre.1 in
-    (start.pre.0, rw start.pre.2 (radius_size small), rw (z-is c) (le_trans small.z_size (lit≤ tt)))
+    let small = start.requires.1 in
+    (start.requires.0, rw start.requires.2 (radius_size small), rw (z-is c) (le_trans small.z_size (lit≤ tt)))
 
 signed-requires : tie.Need-signed-requires
 signed-requires c κs = rw c.angle.ensures (lt_of_le_of_lt (angle_size _ _) (lit< tt))
@@ -37,9 +37,9 @@ unfolding latitude_of
 returns c =
     let height = c.before.before in
     let start = start-at-magnitude height in
-    rw (returned c.signed.type-inv
+    rw (returned c.signed.type_inv
     ∙ c.signed.ensures
-    ∙ ap₂ signed (sign_is start.args.s.z start.pre.1.z_size (lit< tt)) (c.before.angle.ensures ∙ ap₂ angle start.pre.2 (z-is height)))
+    ∙ ap₂ signed (sign_is start.args.s.z start.requires.1.z_size (lit< tt)) (c.before.angle.ensures ∙ ap₂ angle start.requires.2 (z-is height)))
 
-pub latitude-of-spec : {M : Type 1} → statement M
-latitude-of-spec = tie.close (tie.spec magnitude-requires angle-requires signed-requires returns)
+pub latitude_of_spec : {M : Type 1} → statement M
+latitude_of_spec = tie.close (tie.spec magnitude-requires angle-requires signed-requires returns)

@@ -9,13 +9,13 @@ use Rattle.sphere_points.specs.Sphere.{versine_of}
 use Rattle.sphere_points.proofs.versine.Statement.{statement}
 use Rattle.sphere_points.proofs.versine.Tie as tie
 
-mul-near : tie.Need-overflow-mul-near
+mul-near : tie.Need-overflow_mul-x
 mul-near c = fits (search code depth 40 fits 20000) tt
 
-mul-near-2 : tie.Need-overflow-mul-near-2
+mul-near-2 : tie.Need-overflow_mul-y
 mul-near-2 c = fits (search code depth 40 fits 20000) tt
 
-add-near : tie.Need-overflow-add-near
+add-near : tie.Need-overflow_add-x
 add-near c = fits (search code depth 40 fits 20000) tt
 
 near-requires : tie.Need-near-requires
@@ -25,7 +25,7 @@ returns : tie.Need-returns
 unfolding versine_of
 returns c =
     let given = c.before.requires in
-    near_is c.near.type-inv (2 * unit) c.near.ensures (read (search (code, given.0, given.1) depth 40 fits 20000) tt)
+    near_is c.near.type_inv (2 * unit) c.near.ensures (read (search (code, given.0, given.1) depth 40 fits 20000) tt)
 
-pub versine-spec : {M : Type 1} → statement M
-versine-spec = tie.close (tie.spec mul-near mul-near-2 add-near near-requires returns)
+pub versine_spec : {M : Type 1} → statement M
+versine_spec = tie.close (tie.spec mul-near mul-near-2 add-near near-requires returns)

@@ -4,13 +4,13 @@ use Rattle.tallies.specs.Tallies.{is_loop}
 use Rattle.tallies.proofs.is_loop.Statement.{statement}
 use Rattle.tallies.proofs.is_loop.Tie as tie
 
-returns : tie.Need-returns
+returns : tie.Need-returns-then-loop_number-eq1
 unfolding is_loop
-returns c = rw (eq-eqb _ 1 c.if1.true)
+returns c = rw (eq-eqb _ 1 c.if-loop_number-eq1.true)
 
-returns-2 : tie.Need-returns-2
+returns-2 : tie.Need-returns
 unfolding is_loop
-returns-2 c = rw (ne_eqb _ 1 c.if1.false)
+returns-2 c = rw (ne_eqb _ 1 c.if-loop_number-eq1.false)
 
-pub is-loop-spec : {M : Type 1} → statement M
-is-loop-spec = tie.close (tie.spec returns returns-2)
+pub is_loop_spec : {M : Type 1} → statement M
+is_loop_spec = tie.close (tie.spec returns returns-2)

@@ -18,19 +18,19 @@ correction-fits c =
     let start = c.before in
     rw c.correction.ensures (correction_small start.args.low start.args.product start.requires.0 start.requires.3)
 
-mul-result : tie.Need-overflow-mul-result
+mul-result : tie.Need-overflow_mul-result
 mul-result c = record { fits = omega (arith, product_small c) }
 
-add-result : tie.Need-overflow-add-result
+add-result : tie.Need-overflow_add-result
 add-result c = record { fits = omega (arith, product_small c) }
 
 correction-requires : tie.Need-correction-requires
 correction-requires c κs = search rules
 
-add-result-2 : tie.Need-overflow-add-result-2
+add-result-2 : tie.Need-overflow_add-result-2
 add-result-2 c = record { fits = omega (arith, product_small c.before, correction-fits c) }
 
-add-result-3 : tie.Need-overflow-add-result-3
+add-result-3 : tie.Need-overflow_add-result-3
 add-result-3 c = record { fits = omega (arith, product_small c.before, correction-fits c, c.before.requires.0) }
 
 returns : tie.Need-returns
@@ -38,5 +38,5 @@ returns c =
     let a = c.before.args in
     ap (λ (y : ℕ). a.low + (a.rise * a.r + 30_000 + y) / minute) c.correction.ensures
 
-pub between-spec : {M : Type 1} → statement M
-between-spec = tie.close (tie.spec mul-result add-result correction-requires add-result-2 add-result-3 returns)
+pub between_spec : {M : Type 1} → statement M
+between_spec = tie.close (tie.spec mul-result add-result correction-requires add-result-2 add-result-3 returns)

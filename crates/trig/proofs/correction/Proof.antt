@@ -13,21 +13,21 @@ use Rattle.trig.proofs.correction.Tie as tie
 product_small : (c : tie.Start) → c.args.low * c.args.product ≤ unit * most_product
 product_small c = mul-le-mul c.requires.0 c.requires.1
 
-mul-n : tie.Need-overflow-mul-n
+mul-n : tie.Need-overflow_mul-n
 mul-n c = record { fits = omega (arith, product_small c) }
 
-mul-result : tie.Need-overflow-mul-result
+mul-result : tie.Need-overflow_mul-result
 mul-result c = record { fits = omega (arith, product_small c) }
 
-mul-result-2 : tie.Need-overflow-mul-result-2
+mul-result-2 : tie.Need-overflow_mul-result-2
 mul-result-2 c = search rules
 
-add-result : tie.Need-overflow-add-result
+add-result : tie.Need-overflow_add-result
 add-result c = record { fits = omega (arith, product_small c) }
 
 returns : tie.Need-returns
 unfolding whole_correction
 returns c = two_steps (c.args.low * c.args.product)
 
-pub correction-spec : {M : Type 1} → statement M
-correction-spec = tie.close (tie.spec mul-n mul-result mul-result-2 add-result returns)
+pub correction_spec : {M : Type 1} → statement M
+correction_spec = tie.close (tie.spec mul-n mul-result mul-result-2 add-result returns)

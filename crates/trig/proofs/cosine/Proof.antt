@@ -27,7 +27,7 @@ module _ (c : tie.Start) where
   rest-fits : (n : ℕ) → n < 2 ^ 62 → SFits w64 (pos n -ℤ θ)
   rest-fits n h = small_fits (pos n -ℤ θ) (abs_sub (pos n) θ) (omega (arith, c.requires.1))
 
-sub-sine : tie.Need-overflow-sub-sine
+sub-sine : tie.Need-overflow_sub-theta
 sub-sine c = rw (angle-read c) (rest-fits c _ (lit< tt))
 
 sine-requires : tie.Need-sine-requires
@@ -38,7 +38,7 @@ unfolding cosine
 returns c =
     let start = c.before in
     let rest_read = ap (λ (z : ℤ). to_z w64 (of_z w64 (pos right_angle -ℤ z))) (angle-read start) ∙ to_z-of_z (rest-fits start right_angle (lit< tt)) in
-    to_z-of_z {w = w64} (record { sfits = c.sine.type-inv }) ∙ c.sine.ensures ∙ ap sine rest_read
+    to_z-of_z {w = w64} (record { sfits = c.sine.type_inv }) ∙ c.sine.ensures ∙ ap sine rest_read
 
-pub cosine-spec : {M : Type 1} → statement M
-cosine-spec = tie.close (tie.spec sub-sine sine-requires returns)
+pub cosine_spec : {M : Type 1} → statement M
+cosine_spec = tie.close (tie.spec sub-sine sine-requires returns)

@@ -27,31 +27,31 @@ module _ (c : tie.After-rise) where
   r = start.args.theta % minute
 
   abbrev low : ℕ
-  low = c.before.before.minute-sine.result
+  low = c.before.before.minute_sine-low.result
 
   k_inside : k < quarter_minutes
-  k_inside = omega (arith, c.before.if1.false, start.pre.1)
+  k_inside = omega (arith, c.before.if-r-eq0.false, start.requires.1)
 
   low-is : low ≡ entry k
-  low-is = c.before.before.minute-sine.ensures
+  low-is = c.before.before.minute_sine-low.ensures
 
   r_small : r ≤ minute
   r_small = le_of_lt (mod-lt start.args.theta (lit< tt))
 
-minute-sine-requires : tie.Need-minute-sine-requires
+minute-sine-requires : tie.Need-minute_sine-low-requires
 minute-sine-requires c κs = search rules
 
-returns : tie.Need-returns
+returns : tie.Need-returns-then-r-eq0
 unfolding first_quarter
-returns c = c.before.minute-sine.ensures ∙ sym (on_minute _ _ c.if1.true)
+returns c = c.before.minute_sine-low.ensures ∙ sym (on_minute _ _ c.if-r-eq0.true)
 
 rise-requires : tie.Need-rise-requires
 rise-requires c κs = search rules
 
-sub-between : tie.Need-overflow-sub-between
+sub-between : tie.Need-overflow_sub-r
 sub-between c = search rules
 
-mul-between : tie.Need-overflow-mul-between
+mul-between : tie.Need-overflow_mul-r
 mul-between c = record { fits = omega (arith, product_small (r c) (r_small c)) }
 
 between-requires : tie.Need-between-requires
@@ -62,15 +62,15 @@ between-requires c κs = (
   product_small (r c) (r_small c),
 )
 
-returns-2 : tie.Need-returns-2
+returns-2 : tie.Need-returns
 unfolding first_quarter in_minute
 returns-2 c =
     let b = c.before in
     c.between.ensures
     ∙ ap₂ (λ (x y : ℕ). x + (y * r b + 30_000 + whole_correction x (r b * (minute - r b))) / minute) (low-is b) b.rise.ensures
-    ∙ sym (past_minute (k b) (r b) b.before.if1.false (k_inside b) (mod-lt (start b).args.theta (lit< tt)))
+    ∙ sym (past_minute (k b) (r b) b.before.if-r-eq0.false (k_inside b) (mod-lt (start b).args.theta (lit< tt)))
 
-pub first-quarter-spec : {M : Type 1} → statement M
-first-quarter-spec =
+pub first_quarter_spec : {M : Type 1} → statement M
+first_quarter_spec =
     tie.close
     (tie.spec minute-sine-requires returns rise-requires sub-between mul-between between-requires returns-2)

@@ -5,25 +5,25 @@ use Rattle.trig.proofs.Folding.{folds}
 use Rattle.trig.proofs.folded.Statement.{statement}
 use Rattle.trig.proofs.folded.Tie as tie
 
-magnitude-requires : tie.Need-magnitude-requires
+magnitude-requires : tie.Need-magnitude-size-requires
 magnitude-requires c κs = search rules
 
-sub-excess : tie.Need-overflow-sub-excess
+sub-excess : tie.Need-overflow_sub-size
 sub-excess c = search rules
 
 excess-requires : tie.Need-excess-requires
 excess-requires c κs = search rules
 
-sub-half : tie.Need-overflow-sub-half
+sub-half : tie.Need-overflow_sub-half
 sub-half c = search rules
 
-sub-excess-2 : tie.Need-overflow-sub-excess-2
+sub-excess-2 : tie.Need-overflow_sub-half-2
 sub-excess-2 c = search rules
 
 excess-requires-2 : tie.Need-excess-requires-2
 excess-requires-2 c κs = search rules
 
-sub-t6 : tie.Need-overflow-sub-t6
+sub-t6 : tie.Need-overflow_sub-result
 sub-t6 c = search rules
 
 differ-requires : tie.Need-differ-requires
@@ -34,15 +34,15 @@ returns c =
     let start = c.before.before.before.before in
     rw (
       c.differ.ensures,
-      c.before.excess2.ensures,
+      c.before.excess-2.ensures,
       c.before.before.excess.ensures,
-      c.before.before.before.magnitude.ensures,
+      c.before.before.before.magnitude-size.ensures,
       to_z-of_z start.ranges.theta,
     )
     (folds start.args.theta)
 
-pub folded-spec : {M : Type 1} → statement M
-folded-spec =
+pub folded_spec : {M : Type 1} → statement M
+folded_spec =
     tie.close
     (tie.spec
     magnitude-requires

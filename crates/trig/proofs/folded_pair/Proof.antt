@@ -9,18 +9,18 @@ use Rattle.trig.proofs.Quarter.{quarter_zero, quarter_right}
 use Rattle.trig.proofs.folded_pair.Statement.{statement}
 use Rattle.trig.proofs.folded_pair.Tie as tie
 
-returns : tie.Need-returns
+returns : tie.Need-returns-then-theta-eq-RIGHT_ANGLE
 returns c =
-    let top = c.if1.true in (
+    let top = c.if-theta-eq-RIGHT_ANGLE.true in (
       sym (ap first_quarter top ∙ quarter_right),
       sym (ap (λ (x : ℕ). first_quarter (right_angle - x)) top ∙ quarter_zero),
     )
 
-quarter-pair-requires : tie.Need-quarter-pair-requires
+quarter-pair-requires : tie.Need-quarter_pair-requires
 quarter-pair-requires c κs = search rules
 
-returns-2 : tie.Need-returns-2
-returns-2 c = rw (div-add-mod' c.before.before.args.theta minute) at c.quarter-pair.ensures
+returns-2 : tie.Need-returns
+returns-2 c = rw (div-add-mod' c.before.before.args.theta minute) at c.quarter_pair.ensures
 
-pub folded-pair-spec : {M : Type 1} → statement M
-folded-pair-spec = tie.close (tie.spec returns quarter-pair-requires returns-2)
+pub folded_pair_spec : {M : Type 1} → statement M
+folded_pair_spec = tie.close (tie.spec returns quarter-pair-requires returns-2)

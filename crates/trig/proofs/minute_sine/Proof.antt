@@ -13,19 +13,19 @@ held : (c : tie.Start) → get_or c.args.t.now c.args.k 0 ≡ entry c.args.k
 unfolding IsTable
 held c = c.requires.0 c.args.k (omega (arith, c.requires.1))
 
-mul-result : tie.Need-overflow-mul-result
+mul-result : tie.Need-offset_bounds-t-k
 mul-result c = search rules
 
-element-copy-out-result : tie.Need-element-copy-out-result
+element-copy-out-result : tie.Need-bounds-t-k
 element-copy-out-result c = search rules
 
-cast-result : tie.Need-overflow-cast-result
+cast-result : tie.Need-overflow_cast-result
 cast-result c =
-    let start = c.before in
+    let start = c.before.before in
     record { fits = omega (arith, held start, entry_at_most start.args.k start.requires.1) }
 
 returns : tie.Need-returns
-returns c = held c.before
+returns c = held c.before.before
 
-pub minute-sine-spec : {M : Type 1} → statement M
-minute-sine-spec = tie.close (tie.spec mul-result element-copy-out-result cast-result returns)
+pub minute_sine_spec : {M : Type 1} → statement M
+minute_sine_spec = tie.close (tie.spec mul-result element-copy-out-result cast-result returns)

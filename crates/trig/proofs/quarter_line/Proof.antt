@@ -14,15 +14,15 @@ use Rattle.trig.proofs.Quarter.{quarter_minute}
 use Rattle.trig.proofs.quarter_line.Statement.{statement}
 use Rattle.trig.proofs.quarter_line.Tie as tie
 
-minute-sine-requires : tie.Need-minute-sine-requires
+minute-sine-requires : tie.Need-minute_sine-low-requires
 minute-sine-requires c κs = search rules
 
-returns : tie.Need-returns
+returns : tie.Need-returns-then-k-eq-QUARTER_MINUTES
 returns c =
     let start = c.before.before in
-    let top : start.args.theta ≡ right_angle = omega (arith, c.if1.true, start.requires.1) in
+    let top : start.args.theta ≡ right_angle = omega (arith, c.if-k-eq-QUARTER_MINUTES.true, start.requires.1) in
     let last : entry 5400 ≡ first_quarter start.args.theta = sym (quarter_minute 5400) ∙ ap first_quarter (sym top) in
-    let value : c.before.minute-sine.result ≡ first_quarter start.args.theta = c.before.minute-sine.ensures ∙ ap entry c.if1.true ∙ last in
+    let value : c.before.minute_sine-low.result ≡ first_quarter start.args.theta = c.before.minute_sine-low.ensures ∙ ap entry c.if-k-eq-QUARTER_MINUTES.true ∙ last in
     (omega (arith, value), omega (arith, value))
 
 rise-requires : tie.Need-rise-requires
@@ -37,23 +37,23 @@ module _ (c : tie.After-rise) where
   θ = start.args.theta
 
   below : θ / minute < quarter_minutes
-  below = omega (arith, c.before.if1.false, start.pre.1)
+  below = omega (arith, c.before.if-k-eq-QUARTER_MINUTES.false, start.requires.1)
 
   product_small : c.rise.result * (θ % minute) ≤ most_rise * minute
   product_small =
       let part : θ % minute ≤ minute = omega arith in
       rise_product c.rise.result (θ / minute) (θ % minute) minute c.rise.ensures below part
 
-mul-result : tie.Need-overflow-mul-result
+mul-result : tie.Need-overflow_mul-result
 mul-result c = record { fits = omega (arith, product_small c) }
 
-add-result : tie.Need-overflow-add-result
+add-result : tie.Need-overflow_add-result
 add-result c =
-    record { fits = omega (arith, product_small c, c.before.before.minute-sine.ensures, entry_at_most (θ c / minute) (le_of_lt (below c))) }
+    record { fits = omega (arith, product_small c, c.before.before.minute_sine-low.ensures, entry_at_most (θ c / minute) (le_of_lt (below c))) }
 
-returns-2 : tie.Need-returns-2
-returns-2 c = rw (c.before.before.minute-sine.ensures, c.rise.ensures) (near_line (θ c) (omega (arith, below c)))
+returns-2 : tie.Need-returns
+returns-2 c = rw (c.before.before.minute_sine-low.ensures, c.rise.ensures) (near_line (θ c) (omega (arith, below c)))
 
-pub quarter-line-spec : {M : Type 1} → statement M
-quarter-line-spec =
+pub quarter_line_spec : {M : Type 1} → statement M
+quarter_line_spec =
     tie.close (tie.spec minute-sine-requires returns rise-requires mul-result add-result returns-2)

@@ -42,57 +42,57 @@ module _ (s : tie.Start) where
 
   turned : r * (minute - r) ≡ (minute - r) * (minute - (minute - r))
   turned =
-      let back : minute - (minute - r) ≡ r = omega (arith, s.pre.2) in
+      let back : minute - (minute - r) ≡ r = omega (arith, s.requires.2) in
       rw back (omega arith)
 
   place : j * minute + (minute - r) ≡ right_angle - (k * minute + r)
-  place = omega (arith, s.pre.1, s.pre.2)
+  place = omega (arith, s.requires.1, s.requires.2)
 
-sub-before : tie.Need-sub-before
+sub-before : tie.Need-overflow_sub-before
 sub-before c = search rules
 
-sub-before-2 : tie.Need-sub-before-2
+sub-before-2 : tie.Need-overflow_sub-before-2
 sub-before-2 c = search rules
 
-sub-product : tie.Need-sub-product
+sub-product : tie.Need-overflow_sub-product
 sub-product c = search rules
 
-mul-product : tie.Need-mul-product
-mul-product c = record { fits = omega (arith, product_small (r c) (le_of_lt c.pre.2)) }
+mul-product : tie.Need-overflow_mul-product
+mul-product c = record { fits = omega (arith, product_small (r c) (le_of_lt c.requires.2)) }
 
-minute-sine-requires : tie.Need-minute-sine-requires
+minute-sine-requires : tie.Need-minute_sine-requires
 minute-sine-requires c κs = search rules
 
 rise-requires : tie.Need-rise-requires
 rise-requires c κs = search rules
 
 sine-called : (c : tie.After-rise) → let s = c.before.before in
-    Called c.before.minute-sine.result c.rise.result (r s) (r s * (minute - r s)) (k s * minute + r s)
+    Called c.before.minute_sine.result c.rise.result (r s) (r s * (minute - r s)) (k s * minute + r s)
 sine-called c =
     let s = c.before.before in
-    called (k s) (r s) _ _ _ s.pre.1 (le_of_lt s.pre.2) c.before.minute-sine.ensures c.rise.ensures refl
+    called (k s) (r s) _ _ _ s.requires.1 (le_of_lt s.requires.2) c.before.minute_sine.ensures c.rise.ensures refl
 
 between-requires : tie.Need-between-requires
 between-requires c κs = (sine-called c).requires
 
 -- the start of the function, as the later places look back at it
-abbrev start : tie.After-rise2 → tie.Start
+abbrev start : tie.After-rise-2 → tie.Start
 start c = c.before.before.before.before.before
 
-minute-sine-requires-2 : tie.Need-minute-sine-requires-2
+minute-sine-requires-2 : tie.Need-minute_sine-requires-2
 minute-sine-requires-2 c κs = search rules
 
 rise-requires-2 : tie.Need-rise-requires-2
 rise-requires-2 c κs = search rules
 
-sub-between : tie.Need-sub-between
+sub-between : tie.Need-overflow_sub-r
 sub-between c = search rules
 
-cosine-called : (c : tie.After-rise2) → let s = start c in
-    Called c.before.minute-sine2.result c.rise2.result (minute - r s) (r s * (minute - r s)) (j s * minute + (minute - r s))
+cosine-called : (c : tie.After-rise-2) → let s = start c in
+    Called c.before.minute_sine-2.result c.rise-2.result (minute - r s) (r s * (minute - r s)) (j s * minute + (minute - r s))
 cosine-called c =
     let s = start c in
-    called (j s) (minute - r s) _ _ _ (omega (arith, s.pre.1)) (omega arith) c.before.minute-sine2.ensures c.rise2.ensures (turned s)
+    called (j s) (minute - r s) _ _ _ (omega (arith, s.requires.1)) (omega arith) c.before.minute_sine-2.ensures c.rise-2.ensures (turned s)
 
 between-requires-2 : tie.Need-between-requires-2
 between-requires-2 c κs = (cosine-called c).requires
@@ -101,11 +101,11 @@ returns : tie.Need-returns
 returns c =
     let s = start c.before in (
       c.before.before.before.between.ensures ∙ (sine-called c.before.before.before.before).gives,
-      c.between2.ensures ∙ (cosine-called c.before).gives ∙ ap first_quarter (place s),
+      c.between-2.ensures ∙ (cosine-called c.before).gives ∙ ap first_quarter (place s),
     )
 
-pub quarter-pair-spec : {M : Type 1} → statement M
-quarter-pair-spec =
+pub quarter_pair_spec : {M : Type 1} → statement M
+quarter_pair_spec =
     tie.close
     (tie.spec
     sub-before

@@ -13,22 +13,22 @@ use Rattle.trig.proofs.Folding.{signed_near}
 use Rattle.trig.proofs.sine_by_line.Statement.{statement}
 use Rattle.trig.proofs.sine_by_line.Tie as tie
 
-folded-requires : tie.Need-folded-requires
+folded-requires : tie.Need-folded-to-requires
 folded-requires c κs = search rules
 
-quarter-line-requires : tie.Need-quarter-line-requires
+quarter-line-requires : tie.Need-quarter_line-requires
 quarter-line-requires c κs = search rules
 
 signed-requires : tie.Need-signed-requires
-signed-requires c κs = omega (arith, c.quarter-line.ensures.0, quarter_at_most c.before.folded.ensures.inside)
+signed-requires c κs = omega (arith, c.quarter_line.ensures.0, quarter_at_most c.before.folded-to.ensures.inside)
 
 returns : tie.Need-returns
 returns c =
-    let to = c.before.before.folded in
-    let line = c.before.quarter-line.ensures in
-    let value = returned c.signed.type-inv ∙ c.signed.ensures in
+    let to = c.before.before.folded-to in
+    let line = c.before.quarter_line.ensures in
+    let value = returned c.signed.type_inv ∙ c.signed.ensures in
     let sine_is = ap sine (sym (to_z-of_z c.before.before.before.ranges.theta)) ∙ to.ensures.sine_is in
     subst₂ (λ (x y : ℤ). nat_abs (x -ℤ y) ≤ line_error) (sym value) (sym sine_is) (signed_near to.result.below line.0 line.1)
 
-pub sine-by-line-spec : {M : Type 1} → statement M
-sine-by-line-spec = tie.close (tie.spec folded-requires quarter-line-requires signed-requires returns)
+pub sine_by_line_spec : {M : Type 1} → statement M
+sine_by_line_spec = tie.close (tie.spec folded-requires quarter-line-requires signed-requires returns)

@@ -17,33 +17,33 @@ use Rattle.trig.proofs.Folding.{signed_near}
 use Rattle.trig.proofs.sine_by_minute.Statement.{statement}
 use Rattle.trig.proofs.sine_by_minute.Tie as tie
 
-folded-requires : tie.Need-folded-requires
+folded-requires : tie.Need-folded-to-requires
 folded-requires c κs = search rules
 
-minute-sine-requires : tie.Need-minute-sine-requires
+minute-sine-requires : tie.Need-minute_sine-requires
 minute-sine-requires c κs = search rules
 
 -- what the folding and the minute told
-abbrev fold : (c : tie.After-minute-sine) → tie.After-folded
+abbrev fold : (c : tie.After-minute_sine) → tie.After-folded-to
 fold c = c.before.before
 
 at-minute : (s θ : ℕ) → s ≡ entry (θ / minute) → θ ≤ right_angle → (s ≤ first_quarter θ) × (first_quarter θ ≤ s + minute_error)
 at-minute s θ e h = rw e (near_minute θ h)
 
-close-by : (c : tie.After-minute-sine) → let x = first_quarter (fold c).folded.result.theta in
-    (c.minute-sine.result ≤ x) × (x ≤ c.minute-sine.result + minute_error)
-close-by c = at-minute _ _ c.minute-sine.ensures (fold c).folded.ensures.inside
+close-by : (c : tie.After-minute_sine) → let x = first_quarter (fold c).folded-to.result.theta in
+    (c.minute_sine.result ≤ x) × (x ≤ c.minute_sine.result + minute_error)
+close-by c = at-minute _ _ c.minute_sine.ensures (fold c).folded-to.ensures.inside
 
 signed-requires : tie.Need-signed-requires
-signed-requires c κs = omega (arith, (close-by c).0, quarter_at_most (fold c).folded.ensures.inside)
+signed-requires c κs = omega (arith, (close-by c).0, quarter_at_most (fold c).folded-to.ensures.inside)
 
 returns : tie.Need-returns
 returns c =
-    let to = (fold c.before).folded in
+    let to = (fold c.before).folded-to in
     let near = close-by c.before in
-    let value = returned c.signed.type-inv ∙ c.signed.ensures in
+    let value = returned c.signed.type_inv ∙ c.signed.ensures in
     let sine_is = ap sine (sym (to_z-of_z (fold c.before).before.ranges.theta)) ∙ to.ensures.sine_is in
     subst₂ (λ (x y : ℤ). nat_abs (x -ℤ y) ≤ minute_error) (sym value) (sym sine_is) (signed_near to.result.below near.0 near.1)
 
-pub sine-by-minute-spec : {M : Type 1} → statement M
-sine-by-minute-spec = tie.close (tie.spec folded-requires minute-sine-requires signed-requires returns)
+pub sine_by_minute_spec : {M : Type 1} → statement M
+sine_by_minute_spec = tie.close (tie.spec folded-requires minute-sine-requires signed-requires returns)

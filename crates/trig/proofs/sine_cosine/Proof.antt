@@ -14,10 +14,10 @@ use Rattle.trig.proofs.Quarter.{quarter_at_most}
 use Rattle.trig.proofs.sine_cosine.Statement.{statement}
 use Rattle.trig.proofs.sine_cosine.Tie as tie
 
-folded-requires : tie.Need-folded-requires
+folded-requires : tie.Need-folded-to-requires
 folded-requires c κs = search rules
 
-folded-pair-requires : tie.Need-folded-pair-requires
+folded-pair-requires : tie.Need-folded_pair-two-requires
 folded-pair-requires c κs = search rules
 
 -- the angle that is folded, as it is read
@@ -29,30 +29,30 @@ rest-inside : (x : ℕ) → right_angle - x ≤ right_angle
 rest-inside x = omega arith
 
 signed-requires : tie.Need-signed-requires
-signed-requires c κs = omega (arith, c.folded-pair.ensures.0, quarter_at_most c.before.folded.ensures.inside)
+signed-requires c κs = omega (arith, c.folded_pair-two.ensures.0, quarter_at_most c.before.folded-to.ensures.inside)
 
 signed-requires-2 : tie.Need-signed-requires-2
 signed-requires-2 c κs =
     let pair = c.before in
-    omega (arith, pair.folded-pair.ensures.1, quarter_at_most (rest-inside pair.before.folded.result.theta))
+    omega (arith, pair.folded_pair-two.ensures.1, quarter_at_most (rest-inside pair.before.folded-to.result.theta))
 
 returns : tie.Need-returns
 returns c =
     let pair = c.before.before in
-    let to = pair.before.folded in
+    let to = pair.before.folded-to in
     let s = pair.before.before in (
-      returned c.before.signed.type-inv
+      returned c.before.signed.type_inv
           ∙ c.before.signed.ensures
-          ∙ ap (λ (x : ℕ). signed to.result.below x) pair.folded-pair.ensures.0
+          ∙ ap (λ (x : ℕ). signed to.result.below x) pair.folded_pair-two.ensures.0
           ∙ sym to.ensures.sine_is
           ∙ ap sine (read s),
-      returned c.signed2.type-inv
-          ∙ c.signed2.ensures
-          ∙ ap (λ (x : ℕ). signed to.result.behind x) pair.folded-pair.ensures.1
+      returned c.signed-2.type_inv
+          ∙ c.signed-2.ensures
+          ∙ ap (λ (x : ℕ). signed to.result.behind x) pair.folded_pair-two.ensures.1
           ∙ sym to.ensures.cosine_is
           ∙ ap cosine (read s),
     )
 
-pub sine-cosine-spec : {M : Type 1} → statement M
-sine-cosine-spec =
+pub sine_cosine_spec : {M : Type 1} → statement M
+sine_cosine_spec =
     tie.close (tie.spec folded-requires folded-pair-requires signed-requires signed-requires-2 returns)

@@ -13,7 +13,7 @@ cosine-requires c κs = let start = c.before in (start.requires.0, latitude_room
 returns : tie.Need-returns
 returns c =
     let start = c.before.before in
-    returned c.cosine.type-inv ∙ c.cosine.ensures ∙ ap cosineOf (latitude_read start.args.self.0 start.requires.1)
+    returned c.cosine.type_inv ∙ c.cosine.ensures ∙ ap cosineOf (latitude_read start.args.self.0 start.requires.1)
 
-pub cosine-spec : {M : Type 1} → statement M
-cosine-spec = tie.close (tie.spec cosine-requires returns)
+pub cosine_spec : {M : Type 1} → statement M
+cosine_spec = tie.close (tie.spec cosine-requires returns)

@@ -5,14 +5,14 @@ use Rattle.latitudes.proofs.Reading.{latitude_read}
 use Rattle.latitudes.proofs.Authalic.sine_cosine.Statement.{statement}
 use Rattle.latitudes.proofs.Authalic.sine_cosine.Tie as tie
 
-sine-cosine-requires : tie.Need-sine-cosine-requires
+sine-cosine-requires : tie.Need-sine_cosine-requires
 sine-cosine-requires c κs = c.before.requires.0
 
 returns : tie.Need-returns
 returns c =
     let start = c.before.before in
     let read = latitude_read start.args.self.0 start.requires.1 in
-    (c.sine-cosine.ensures.0 ∙ ap sineOf read, c.sine-cosine.ensures.1 ∙ ap cosineOf read)
+    (c.sine_cosine.ensures.0 ∙ ap sineOf read, c.sine_cosine.ensures.1 ∙ ap cosineOf read)
 
-pub sine-cosine-spec : {M : Type 1} → statement M
-sine-cosine-spec = tie.close (tie.spec sine-cosine-requires returns)
+pub sine_cosine_spec : {M : Type 1} → statement M
+sine_cosine_spec = tie.close (tie.spec sine-cosine-requires returns)

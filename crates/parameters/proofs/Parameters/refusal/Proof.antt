@@ -21,7 +21,7 @@ record Fields (p : Parameters) : Type 0 where
   pub easting-fits : SFits w64 p.false_easting
   pub northing-fits : SFits w64 p.false_northing
 
-fields : (c : tie.After-struct-told) → Fields c.before.before.args.self
+fields : (c : tie.After-struct_told-1) → Fields c.before.before.args.self
 fields c =
     record {
       a-fits = search rules;
@@ -36,22 +36,22 @@ linked : {r n n' : ℕ} {t t' : Bool} (number : ℕ) → r ≡ unless t number n
 linked number e f g = e ∙ ap₂ (λ (t : Bool) (n : ℕ). unless t number n) f g
 
 -- where the code stands at each link: the link before, the set, and what is known of its fields
-abbrev at-easting : tie.After-unless2 → tie.After-unless
+abbrev at-easting : tie.After-unless-easting → tie.After-unless-northing
 at-easting c = c.before.before.before
 
-abbrev at-lon0 : tie.After-unless3 → tie.After-unless2
+abbrev at-lon0 : tie.After-unless-lon0 → tie.After-unless-easting
 at-lon0 c = c.before.before.before
 
-abbrev at-lat0 : tie.After-unless4 → tie.After-unless3
+abbrev at-lat0 : tie.After-unless-origin → tie.After-unless-lon0
 at-lat0 c = c.before.before
 
-abbrev at-e2 : tie.After-unless5 → tie.After-unless4
+abbrev at-e2 : tie.After-unless-e2 → tie.After-unless-origin
 at-e2 c = c.before.before.before
 
-abbrev set-of : tie.After-unless → Parameters
+abbrev set-of : tie.After-unless-northing → Parameters
 set-of c = c.before.before.before.before.args.self
 
-abbrev known : (c : tie.After-unless) → Fields (set-of c)
+abbrev known : (c : tie.After-unless-northing) → Fields (set-of c)
 known c = fields c.before.before
 
 -- the links from each field on, the last field first
@@ -70,64 +70,64 @@ from-lat0 p = unless (accepted_lat0 p.lat0) bad_lat0 (from-lon0 p)
 abbrev from-e2 : Parameters → ℕ
 from-e2 p = unless (accepted_e2 p.e2) bad_e2 (from-lat0 p)
 
-northing-is : (c : tie.After-unless) → c.unless.result ≡ from-northing (set-of c)
-northing-is c = linked bad_false_northing c.unless.ensures (c.before.is_false.ensures ∙ ap accepted_false (to_z-of_z (known c).northing-fits)) refl
+northing-is : (c : tie.After-unless-northing) → c.unless-northing.result ≡ from-northing (set-of c)
+northing-is c = linked bad_false_northing c.unless-northing.ensures (c.before.is_false.ensures ∙ ap accepted_false (to_z-of_z (known c).northing-fits)) refl
 
-easting-is : (c : tie.After-unless2) → c.unless2.result ≡ from-easting (set-of (at-easting c))
+easting-is : (c : tie.After-unless-easting) → c.unless-easting.result ≡ from-easting (set-of (at-easting c))
 easting-is c =
-    linked bad_false_easting c.unless2.ensures
-    (c.before.is-false2.ensures ∙ ap accepted_false (to_z-of_z (known (at-easting c)).easting-fits))
+    linked bad_false_easting c.unless-easting.ensures
+    (c.before.is_false-2.ensures ∙ ap accepted_false (to_z-of_z (known (at-easting c)).easting-fits))
     (northing-is (at-easting c))
 
-lon0-is : (c : tie.After-unless3) → c.unless3.result ≡ from-lon0 (set-of (at-easting (at-lon0 c)))
+lon0-is : (c : tie.After-unless-lon0) → c.unless-lon0.result ≡ from-lon0 (set-of (at-easting (at-lon0 c)))
 lon0-is c =
-    linked bad_lon0 c.unless3.ensures
-    (c.before.is-lon0.ensures ∙ ap accepted_lon0 (to_z-of_z (known (at-easting (at-lon0 c))).lon0-fits))
+    linked bad_lon0 c.unless-lon0.ensures
+    (c.before.is_lon0.ensures ∙ ap accepted_lon0 (to_z-of_z (known (at-easting (at-lon0 c))).lon0-fits))
     (easting-is (at-lon0 c))
 
-lat0-is : (c : tie.After-unless4) → c.unless4.result ≡ from-lat0 (set-of (at-easting (at-lon0 (at-lat0 c))))
-lat0-is c = linked bad_lat0 c.unless4.ensures c.before.is-lat0.ensures (lon0-is (at-lat0 c))
+lat0-is : (c : tie.After-unless-origin) → c.unless-origin.result ≡ from-lat0 (set-of (at-easting (at-lon0 (at-lat0 c))))
+lat0-is c = linked bad_lat0 c.unless-origin.ensures c.before.is_lat0.ensures (lon0-is (at-lat0 c))
 
-e2-is : (c : tie.After-unless5) → c.unless5.result ≡ from-e2 (set-of (at-easting (at-lon0 (at-lat0 (at-e2 c)))))
+e2-is : (c : tie.After-unless-e2) → c.unless-e2.result ≡ from-e2 (set-of (at-easting (at-lon0 (at-lat0 (at-e2 c)))))
 e2-is c =
-    linked bad_e2 c.unless5.ensures
-    (c.before.is-e2.ensures ∙ ap accepted_e2 (to_z-of_z (known (at-easting (at-lon0 (at-lat0 (at-e2 c))))).e2-fits))
+    linked bad_e2 c.unless-e2.ensures
+    (c.before.is_e2.ensures ∙ ap accepted_e2 (to_z-of_z (known (at-easting (at-lon0 (at-lat0 (at-e2 c))))).e2-fits))
     (lat0-is (at-e2 c))
 
-is-false-requires : tie.Need-is-false-requires
+is-false-requires : tie.Need-is_false-requires
 is-false-requires c κs = search rules
 
-unless-requires : tie.Need-unless-requires
+unless-requires : tie.Need-unless-northing-requires
 unless-requires c κs = search rules
 
-is-false-requires-2 : tie.Need-is-false-requires-2
+is-false-requires-2 : tie.Need-is_false-requires-2
 is-false-requires-2 c κs = search rules
 
-unless-requires-2 : tie.Need-unless-requires-2
+unless-requires-2 : tie.Need-unless-easting-requires
 unless-requires-2 c κs = search rules
 
-is-lon0-requires : tie.Need-is-lon0-requires
+is-lon0-requires : tie.Need-is_lon0-requires
 is-lon0-requires c κs = search rules
 
-unless-requires-3 : tie.Need-unless-requires-3
+unless-requires-3 : tie.Need-unless-lon0-requires
 unless-requires-3 c κs = search rules
 
-is-lat0-requires : tie.Need-is-lat0-requires
+is-lat0-requires : tie.Need-is_lat0-requires
 is-lat0-requires c κs = search rules
 
-unless-requires-4 : tie.Need-unless-requires-4
+unless-requires-4 : tie.Need-unless-origin-requires
 unless-requires-4 c κs = search rules
 
-is-e2-requires : tie.Need-is-e2-requires
+is-e2-requires : tie.Need-is_e2-requires
 is-e2-requires c κs = search rules
 
-unless-requires-5 : tie.Need-unless-requires-5
+unless-requires-5 : tie.Need-unless-e2-requires
 unless-requires-5 c κs = search rules
 
-is-a-requires : tie.Need-is-a-requires
+is-a-requires : tie.Need-is_a-requires
 is-a-requires c κs = search rules
 
-unless-requires-6 : tie.Need-unless-requires-6
+unless-requires-6 : tie.Need-unless-requires
 unless-requires-6 c κs = search rules
 
 returns : tie.Need-returns
@@ -135,12 +135,12 @@ unfolding set_refusal
 returns c =
     let before = c.before.before.before in
     let f = known (at-easting (at-lon0 (at-lat0 (at-e2 before)))) in
-    linked bad_a c.unless6.ensures
-    (c.before.is-a.ensures ∙ ap accepted_a (to_z-of_z f.a-fits))
+    linked bad_a c.unless.ensures
+    (c.before.is_a.ensures ∙ ap accepted_a (to_z-of_z f.a-fits))
     (e2-is before)
 
-pub refusal-spec : {M : Type 1} → statement M
-refusal-spec =
+pub refusal_spec : {M : Type 1} → statement M
+refusal_spec =
     tie.close
     (tie.spec
     is-false-requires

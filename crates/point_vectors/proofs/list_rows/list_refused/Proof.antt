@@ -3,7 +3,7 @@
 use Rattle.std.proofs.Common.{◌∙◌, rules}
 use lib.Ieee.{of_bits}
 use Rattle.pairs.specs.Pairs.{zero_float}
-use Rattle.point_vectors.specs.InnerLists.{outcomeOf}
+use Rattle.point_vectors.specs.InnerLists.{outcome_of}
 use Rattle.point_vectors.proofs.OutcomeLaws.{refused_by}
 use Rattle.point_vectors.proofs.list_rows.list_refused.Statement.{statement}
 use Rattle.point_vectors.proofs.list_rows.list_refused.Tie as tie
@@ -42,7 +42,7 @@ returns c =
     let told = compared.before.before in
     let made = told.before.before.before.before.before in
     let a = made.before.args in
-    let outcome = outcomeOf a.p a.forward a.a a.b a.c a.d a.e zero_float zero_float in
+    let outcome = outcome_of a.p a.forward a.a a.b a.c a.d a.e zero_float zero_float in
     refused_by made.call.result outcome (c.verdict.ensures ∙ c.before.both.ensures) made.call.ensures a.number
     told.is-told.ensures
     compared.are-same.ensures

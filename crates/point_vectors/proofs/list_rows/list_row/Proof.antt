@@ -4,7 +4,7 @@ use Rattle.std.proofs.Common.{ap, ◌∙◌, rules}
 use Rattle.parameters.specs.declared.Parameters.{Parameters}
 use Rattle.parameters.specs.ParameterSet.{etrs_laea}
 use Rattle.point_vectors.specs.declared.list_rows.Outcome.{Outcome}
-use Rattle.point_vectors.specs.InnerLists.{outcomeOf}
+use Rattle.point_vectors.specs.InnerLists.{outcome_of}
 use Rattle.point_vectors.proofs.OutcomeLaws.{counted_by}
 use Rattle.point_vectors.proofs.list_rows.list_row.Statement.{statement}
 use Rattle.point_vectors.proofs.list_rows.list_row.Tie as tie
@@ -46,7 +46,7 @@ returns c =
     let made = counted.before.before in
     let start = made.before.before in
     let a = start.args in
-    let outcome : Parameters → Outcome = λ p. outcomeOf p a.forward a.n a.n a.n a.n a.n a.x-step a.y-step in
+    let outcome : Parameters → Outcome = λ p. outcome_of p a.forward a.n a.n a.n a.n a.n a.x-step a.y-step in
     let is = made.call.ensures ∙ ap outcome made.before.etrs-laea.ensures in
     counted_by made.call.result (outcome etrs_laea) (c.verdict.ensures ∙ c.before.both.ensures) is a.n a.right
     counted.count-row.ensures

@@ -13,38 +13,38 @@ use Rattle.tallies.proofs.Outcomes.{refused_with, done_with, made_refused, made_
 use Rattle.tallies.proofs.Tally.new.Statement.{statement}
 use Rattle.tallies.proofs.Tally.new.Tie as tie
 
-side-is : (c : tie.After-is-side) → accepted_side c.before.before.args.side ≡ c.is-side.result
-side-is c = sym (c.is-side.ensures ∙ ap accepted_side (to_z-of_z c.before.before.ranges.side))
+side-is : (c : tie.After-is_side) → accepted_side c.before.before.args.side ≡ c.is_side.result
+side-is c = sym (c.is_side.ensures ∙ ap accepted_side (to_z-of_z c.before.before.ranges.side))
 
-empty-slot-requires : tie.Need-empty-slot-requires
+empty-slot-requires : tie.Need-empty_slot-requires
 empty-slot-requires c κs = search rules
 
-is-side-requires : tie.Need-is-side-requires
+is-side-requires : tie.Need-is_side-requires
 is-side-requires c κs = search rules
 
 refused-requires : tie.Need-refused-requires
 refused-requires c κs = search rules
 
-returns : tie.Need-returns
+returns : tie.Need-returns-then-not-is_side
 returns c =
     let at = c.before.before in
     let empty = at.before in
     let start = empty.before in
     let word = to_z-of_z {w = w64} start.ranges.side in
     c.refused.ensures
-    ∙ ap (λ (z : ℤ). refused_with 3 (record { side = z; slots = replicate slot_count empty.empty_slot_lem.result })) word
-    ∙ made_refused start.args.side empty.empty_slot_lem.result empty.empty_slot_lem.ensures
-    (side-is at ∙ not-true at.is-side.result c.before.if1.true)
+    ∙ ap (λ (z : ℤ). refused_with 3 (record { side = z; slots = replicate slot_count empty.empty_slot.result })) word
+    ∙ made_refused start.args.side empty.empty_slot.result empty.empty_slot.ensures
+    (side-is at ∙ c.before.if-not-is_side.true)
 
-returns-2 : tie.Need-returns-2
+returns-2 : tie.Need-returns
 returns-2 c =
     let at = c.before in
     let empty = at.before in
     let start = empty.before in
     let word = to_z-of_z {w = w64} start.ranges.side in
-    ap (λ (z : ℤ). done_with (replicate slot_count empty.empty_slot_lem.result) (record { side = z; slots = [] })) word
-    ∙ made_done start.args.side empty.empty_slot_lem.result empty.empty_slot_lem.ensures
-    (side-is at ∙ not-false at.is-side.result c.if1.false)
+    ap (λ (z : ℤ). done_with (replicate slot_count empty.empty_slot.result) (record { side = z; slots = [] })) word
+    ∙ made_done start.args.side empty.empty_slot.result empty.empty_slot.ensures
+    (side-is at ∙ c.if-not-is_side.false)
 
 pub new_spec : {M : Type 1} → statement M
 new_spec = tie.close (tie.spec empty-slot-requires is-side-requires refused-requires returns returns-2)

@@ -11,7 +11,7 @@ use Rattle.units.proofs.Spans.{between}
 use Rattle.parameters.specs.ParameterSet.{accepted_e2}
 use Rattle.latitudes.specs.declared.Geodetic.{Geodetic}
 use Rattle.geodetic_search.specs.Reverse.{geodetic}
-use Rattle.constants.specs.Derived.{seriesOf}
+use Rattle.constants.specs.Derived.{series_of}
 use Rattle.reverse_series.specs.InnerSeries.{reversed}
 use Rattle.billionths.proofs.Calls.{back}
 use Rattle.gaps.proofs.Differences.{gap_is}
@@ -53,7 +53,7 @@ returns c =
     let found = right.before.before in
     let start = found.before.before in
     let a = start.args in
-    let found-is = found.steps.ensures ∙ ap (λ (e2 : ℤ). geodetic (seriesOf e2) a.beta) (e2-is start) in
+    let found-is = found.steps.ensures ∙ ap (λ (e2 : ℤ). geodetic (series_of e2) a.beta) (e2-is start) in
     let right_is = right.latitude.ensures ∙ ap (λ (e2 : ℤ). reversed e2 a.beta) (e2-is start) in
     c.verdict.ensures
     ∙ ap (λ (n : ℕ). leb n most_mas)

@@ -9,7 +9,7 @@ use Rattle.parameters.specs.ParameterSet.{set_refusal}
 use Rattle.latitudes.specs.declared.AuthalicSeries.{AuthalicSeries}
 use Rattle.geodetic_search.specs.Reverse.{geodetic}
 use Rattle.constants.specs.declared.Constants.{Constants}
-use Rattle.constants.specs.Derived.{seriesOf, constantsOf}
+use Rattle.constants.specs.Derived.{series_of, constants_of}
 use Rattle.constants.proofs.ConstantsLaws.{sound_as}
 use Rattle.parameters.specs.ParameterSet.{set_of}
 use Rattle.vectors.proofs.SeriesLaws.{e2_decides}
@@ -36,10 +36,10 @@ to-geodetic-requires c κs =
     let start = made.before in
     (start.requires.0, (sound_as made.set.result call.result (accepted made) call.ensures).small, start.requires.2)
 
-series-is : (c : tie.After-constants-of) → c.constants-of.result.series ≡ seriesOf c.before.before.args.e2
-unfolding constantsOf
+series-is : (c : tie.After-constants-of) → c.constants-of.result.series ≡ series_of c.before.before.args.e2
+unfolding constants_of
 series-is c =
-    ap (λ (k : Constants). k.series) c.constants-of.ensures ∙ ap (λ (p : Parameters). seriesOf p.e2) (set_is c.before)
+    ap (λ (k : Constants). k.series) c.constants-of.ensures ∙ ap (λ (p : Parameters). series_of p.e2) (set_is c.before)
 
 returns : tie.Need-returns
 returns c =
