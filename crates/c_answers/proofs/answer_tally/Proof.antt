@@ -6,21 +6,21 @@ use Rattle.c_answers.specs.Answers.{tally_result}
 use Rattle.c_answers.proofs.answer_tally.Statement.{statement}
 use Rattle.c_answers.proofs.answer_tally.Tie as tie
 
-enum_told : tie.Need-enum-told
+enum_told : tie.Need-enum_told-1
 enum_told c = search rules
 
-enum-known-answer : tie.Need-enum-known-answer
+enum-known-answer : tie.Need-enum_known-answer
 enum-known-answer c = search rules
 
-returns : tie.Need-returns
+returns : tie.Need-returns-in-Done
 returns c =
     let tally = c.before.before.before.args.next.tally in
-    sym (ap (λ (a : TallyAnswer). tally_result (record { tally = tally; answer = a })) c.enum_told.given.1)
+    sym (ap (λ (a : TallyAnswer). tally_result (record { tally = tally; answer = a })) c.enum_told-1.given.1)
 
-returns-2 : tie.Need-returns-2
+returns-2 : tie.Need-returns-in-Refused
 returns-2 c =
     let tally = c.before.before.before.before.args.next.tally in
-    sym (ap (λ (a : TallyAnswer). tally_result (record { tally = tally; answer = a })) c.before.answer.given.1)
+    sym (ap (λ (a : TallyAnswer). tally_result (record { tally = tally; answer = a })) c.before.answer-1.given.1)
 
-pub answer-tally-spec : {M : Type 1} → statement M
-answer-tally-spec = tie.close (tie.spec enum_told enum-known-answer returns returns-2)
+pub answer_tally_spec : {M : Type 1} → statement M
+answer_tally_spec = tie.close (tie.spec enum_told enum-known-answer returns returns-2)

@@ -5,11 +5,11 @@ use Rattle.c_answers.proofs.WritingLaws.{accepted_answer, refused_answer}
 use Rattle.c_answers.proofs.answer_whole.Statement.{statement}
 use Rattle.c_answers.proofs.answer_whole.Tie as tie
 
-returns : tie.Need-returns
-returns c = accepted_answer _ c.before.before.if1.true (to_z-of_z (search rules)) (to_z-of_z (search rules))
+returns : tie.Need-returns-then-told-eq0
+returns c = accepted_answer _ c.before.before.if-told-eq0.true (to_z-of_z (search rules)) (to_z-of_z (search rules))
 
-returns-2 : tie.Need-returns-2
-returns-2 c = refused_answer _ c.if1.false
+returns-2 : tie.Need-returns-else-told-eq0
+returns-2 c = refused_answer _ c.if-told-eq0.false
 
-pub answer-whole-spec : {M : Type 1} → statement M
-answer-whole-spec = tie.close (tie.spec returns returns-2)
+pub answer_whole_spec : {M : Type 1} → statement M
+answer_whole_spec = tie.close (tie.spec returns returns-2)

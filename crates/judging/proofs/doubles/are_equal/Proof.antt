@@ -3,11 +3,11 @@ use Rattle.std.proofs.Common.{eq-eqb, ne_eqb}
 use Rattle.judging.proofs.doubles.are_equal.Statement.{statement}
 use Rattle.judging.proofs.doubles.are_equal.Tie as tie
 
-returns : tie.Need-returns
-returns c = simp (ne_eqb _ _ c.if1.true)
+returns : tie.Need-returns-then-a-b
+returns c = simp (ne_eqb _ _ c.if-a-b.true)
 
-returns-2 : tie.Need-returns-2
-returns-2 c = simp (eq-eqb _ _ c.if1.false)
+returns-2 : tie.Need-returns
+returns-2 c = simp (eq-eqb _ _ c.if-a-b.false)
 
-pub are-equal-spec : {M : Type 1} → statement M
-are-equal-spec = tie.close (tie.spec returns returns-2)
+pub are_equal_spec : {M : Type 1} → statement M
+are_equal_spec = tie.close (tie.spec returns returns-2)
