@@ -39,8 +39,8 @@ loop-again c =
     let i = c.before.before.before.loop-i.i in
     let inside = c.before.before.loop-i-test.true in
     elim c.if-marks-i-eq0.branch [
-      then-marks-i-eq0 w ↦ omega (arith, zero_counted marks i inside w.if-marks-i-eq0.true)
-    | else-marks-i-eq0 w ↦ omega (arith, other_not_counted marks i inside w.if-marks-i-eq0.false)
+      | then-marks-i-eq0 w ↦ omega (arith, zero_counted marks i inside w.if-marks-i-eq0.true)
+      | else-marks-i-eq0 w ↦ omega (arith, other_not_counted marks i inside w.if-marks-i-eq0.false)
     ]
 
 returns : tie.Need-returns invariant-loop decreases-loop

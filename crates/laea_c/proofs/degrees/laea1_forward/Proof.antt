@@ -9,16 +9,16 @@ use Rattle.laea_c.proofs.CallLaws.{alike}
 use Rattle.laea_c.proofs.degrees.laea1_forward.Statement.{statement}
 use Rattle.laea_c.proofs.degrees.laea1_forward.Tie as tie
 
-parameters-of-requires : tie.Need-parameters-of-requires
+parameters-of-requires : tie.Need-parameters_of-requires
 parameters-of-requires c κs = search rules
 
-forward-degrees-requires : tie.Need-forward-degrees-requires
+forward-degrees-requires : tie.Need-forward_degrees-requires
 forward-degrees-requires c κs = search rules
 
-plane-row-requires : tie.Need-plane-row-requires
+plane-row-requires : tie.Need-plane_row-requires
 plane-row-requires c κs = search rules
 
-answer-floats-requires : tie.Need-answer-floats-requires
+answer-floats-requires : tie.Need-answer_floats-requires
 answer-floats-requires c κs = search rules
 
 returns : tie.Need-returns
@@ -27,8 +27,8 @@ returns c =
     let call = row.before in
     let set = call.before in
     let x = set.before.args in
-    let set_is = ap (λ (p : Parameters). forward_row p (degrees x.latitude x.longitude)) set.parameters-of.ensures in
-    alike AnswersFloats (row.plane-row.ensures ∙ call.forward-degrees.ensures.1 ∙ set_is) c.answer-floats.ensures
+    let set_is = ap (λ (p : Parameters). forward_row p (degrees x.latitude x.longitude)) set.parameters_of.ensures in
+    alike AnswersFloats (row.plane_row.ensures ∙ call.forward_degrees.ensures.1 ∙ set_is) c.answer_floats.ensures
 
-pub laea1-forward-spec : {M : Type 1} → statement M
-laea1-forward-spec = tie.close (tie.spec parameters-of-requires forward-degrees-requires plane-row-requires answer-floats-requires returns)
+pub laea1_forward_spec : {M : Type 1} → statement M
+laea1_forward_spec = tie.close (tie.spec parameters-of-requires forward-degrees-requires plane-row-requires answer-floats-requires returns)

@@ -9,16 +9,16 @@ use Rattle.laea_c.proofs.CallLaws.{alike}
 use Rattle.laea_c.proofs.degrees.laea1_inverse.Statement.{statement}
 use Rattle.laea_c.proofs.degrees.laea1_inverse.Tie as tie
 
-parameters-of-requires : tie.Need-parameters-of-requires
+parameters-of-requires : tie.Need-parameters_of-requires
 parameters-of-requires c κs = search rules
 
-inverse-metres-requires : tie.Need-inverse-metres-requires
+inverse-metres-requires : tie.Need-inverse_metres-requires
 inverse-metres-requires c κs = search rules
 
-geodetic-row-requires : tie.Need-geodetic-row-requires
+geodetic-row-requires : tie.Need-geodetic_row-requires
 geodetic-row-requires c κs = search rules
 
-answer-floats-requires : tie.Need-answer-floats-requires
+answer-floats-requires : tie.Need-answer_floats-requires
 answer-floats-requires c κs = search rules
 
 returns : tie.Need-returns
@@ -27,8 +27,8 @@ returns c =
     let call = row.before in
     let set = call.before in
     let x = set.before.args in
-    let set_is = ap (λ (p : Parameters). inverse_row p (metres x.first x.second)) set.parameters-of.ensures in
-    alike AnswersFloats (row.geodetic-row.ensures ∙ call.inverse-metres.ensures.1 ∙ set_is) c.answer-floats.ensures
+    let set_is = ap (λ (p : Parameters). inverse_row p (metres x.first x.second)) set.parameters_of.ensures in
+    alike AnswersFloats (row.geodetic_row.ensures ∙ call.inverse_metres.ensures.1 ∙ set_is) c.answer_floats.ensures
 
-pub laea1-inverse-spec : {M : Type 1} → statement M
-laea1-inverse-spec = tie.close (tie.spec parameters-of-requires inverse-metres-requires geodetic-row-requires answer-floats-requires returns)
+pub laea1_inverse_spec : {M : Type 1} → statement M
+laea1_inverse_spec = tie.close (tie.spec parameters-of-requires inverse-metres-requires geodetic-row-requires answer-floats-requires returns)

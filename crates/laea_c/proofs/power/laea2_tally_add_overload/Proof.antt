@@ -9,13 +9,13 @@ use Rattle.laea_c.proofs.power.laea2_tally_add_overload.Tie as tie
 add-requires : tie.Need-add-requires
 add-requires c κs = search rules
 
-answer-tally-requires : tie.Need-answer-tally-requires
+answer-tally-requires : tie.Need-answer_tally-requires
 answer-tally-requires c κs = search rules
 
 returns : tie.Need-returns
 returns c =
     let f = c.before.before.ranges in
-    c.answer-tally.ensures ∙ ap tally_result (rw (to_z-of_z f.east, to_z-of_z f.north) at c.before.add.ensures)
+    c.answer_tally.ensures ∙ ap tally_result (rw (to_z-of_z f.east, to_z-of_z f.north) at c.before.add.ensures)
 
-pub laea2-tally-add-overload-spec : {M : Type 1} → statement M
-laea2-tally-add-overload-spec = tie.close (tie.spec add-requires answer-tally-requires returns)
+pub laea2_tally_add_overload_spec : {M : Type 1} → statement M
+laea2_tally_add_overload_spec = tie.close (tie.spec add-requires answer-tally-requires returns)

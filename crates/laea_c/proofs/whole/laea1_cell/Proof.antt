@@ -10,10 +10,10 @@ use Rattle.laea_c.proofs.whole.laea1_cell.Tie as tie
 cell-requires : tie.Need-cell-requires
 cell-requires c κs = search rules
 
-cell-told-requires : tie.Need-cell-told-requires
+cell-told-requires : tie.Need-cell_told-requires
 cell-told-requires c κs = search rules
 
-answer-whole-requires : tie.Need-answer-whole-requires
+answer-whole-requires : tie.Need-answer_whole-requires
 answer-whole-requires c κs = search rules
 
 returns : tie.Need-returns
@@ -21,8 +21,8 @@ returns c =
     let told = c.before.before in
     let call = told.before in
     let f = call.before.ranges in
-    alike AnswersWhole (told.cell-told.ensures ∙ call.cell.ensures.1 ∙ rw (to_z-of_z f.side, to_z-of_z f.easting, to_z-of_z f.northing))
-    c.answer-whole.ensures
+    alike AnswersWhole (told.cell_told.ensures ∙ call.cell.ensures.1 ∙ rw (to_z-of_z f.side, to_z-of_z f.easting, to_z-of_z f.northing))
+    c.answer_whole.ensures
 
-pub laea1-cell-spec : {M : Type 1} → statement M
-laea1-cell-spec = tie.close (tie.spec cell-requires cell-told-requires answer-whole-requires returns)
+pub laea1_cell_spec : {M : Type 1} → statement M
+laea1_cell_spec = tie.close (tie.spec cell-requires cell-told-requires answer-whole-requires returns)

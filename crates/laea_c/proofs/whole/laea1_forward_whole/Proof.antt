@@ -7,16 +7,16 @@ use Rattle.laea_c.proofs.CallLaws.{alike}
 use Rattle.laea_c.proofs.whole.laea1_forward_whole.Statement.{statement}
 use Rattle.laea_c.proofs.whole.laea1_forward_whole.Tie as tie
 
-parameters-of-requires : tie.Need-parameters-of-requires
+parameters-of-requires : tie.Need-parameters_of-requires
 parameters-of-requires c κs = search rules
 
-forward-requires : tie.Need-forward-requires
+forward-requires : tie.Need-forward-answer-requires
 forward-requires c κs = search rules
 
-plane-told-requires : tie.Need-plane-told-requires
+plane-told-requires : tie.Need-plane_told-requires
 plane-told-requires c κs = search rules
 
-answer-whole-requires : tie.Need-answer-whole-requires
+answer-whole-requires : tie.Need-answer_whole-requires
 answer-whole-requires c κs = search rules
 
 returns : tie.Need-returns
@@ -25,8 +25,8 @@ returns c =
     let call = told.before in
     let set = call.before in
     let f = set.before.ranges in
-    alike AnswersWhole (told.plane-told.ensures ∙ call.forward.ensures.1 ∙ rw (set.parameters-of.ensures, to_z-of_z f.latitude, to_z-of_z f.longitude))
-    c.answer-whole.ensures
+    alike AnswersWhole (told.plane_told.ensures ∙ call.forward-answer.ensures.1 ∙ rw (set.parameters_of.ensures, to_z-of_z f.latitude, to_z-of_z f.longitude))
+    c.answer_whole.ensures
 
-pub laea1-forward-whole-spec : {M : Type 1} → statement M
-laea1-forward-whole-spec = tie.close (tie.spec parameters-of-requires forward-requires plane-told-requires answer-whole-requires returns)
+pub laea1_forward_whole_spec : {M : Type 1} → statement M
+laea1_forward_whole_spec = tie.close (tie.spec parameters-of-requires forward-requires plane-told-requires answer-whole-requires returns)

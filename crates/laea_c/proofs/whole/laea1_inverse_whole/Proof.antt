@@ -7,16 +7,16 @@ use Rattle.laea_c.proofs.CallLaws.{alike}
 use Rattle.laea_c.proofs.whole.laea1_inverse_whole.Statement.{statement}
 use Rattle.laea_c.proofs.whole.laea1_inverse_whole.Tie as tie
 
-parameters-of-requires : tie.Need-parameters-of-requires
+parameters-of-requires : tie.Need-parameters_of-requires
 parameters-of-requires c κs = search rules
 
-inverse-requires : tie.Need-inverse-requires
+inverse-requires : tie.Need-inverse-answer-requires
 inverse-requires c κs = search rules
 
-geodetic-told-requires : tie.Need-geodetic-told-requires
+geodetic-told-requires : tie.Need-geodetic_told-requires
 geodetic-told-requires c κs = search rules
 
-answer-whole-requires : tie.Need-answer-whole-requires
+answer-whole-requires : tie.Need-answer_whole-requires
 answer-whole-requires c κs = search rules
 
 returns : tie.Need-returns
@@ -26,8 +26,8 @@ returns c =
     let set = call.before in
     let f = set.before.ranges in
     alike AnswersWhole
-    (told.geodetic-told.ensures ∙ call.inverse.ensures.1 ∙ rw (set.parameters-of.ensures, to_z-of_z f.easting, to_z-of_z f.northing))
-    c.answer-whole.ensures
+    (told.geodetic_told.ensures ∙ call.inverse-answer.ensures.1 ∙ rw (set.parameters_of.ensures, to_z-of_z f.easting, to_z-of_z f.northing))
+    c.answer_whole.ensures
 
-pub laea1-inverse-whole-spec : {M : Type 1} → statement M
-laea1-inverse-whole-spec = tie.close (tie.spec parameters-of-requires inverse-requires geodetic-told-requires answer-whole-requires returns)
+pub laea1_inverse_whole_spec : {M : Type 1} → statement M
+laea1_inverse_whole_spec = tie.close (tie.spec parameters-of-requires inverse-requires geodetic-told-requires answer-whole-requires returns)
