@@ -7,10 +7,10 @@ mod sets;
 mod tally;
 mod trips;
 
-fn main() {
+fn main(rt: HostRuntime) {
     let t = sine_table::table();
-    sets::oblique(&t);
-    sets::equatorial(&t);
-    sets::north_polar(&t);
-    sets::south_polar(&t);
+    sets::oblique(&rt, &t);
+    sets::equatorial(&rt, &t);
+    sets::north_polar(&rt, &t);
+    sets::south_polar(&rt, &t);
 }

@@ -18,16 +18,18 @@ fn set(a: i64, e2: i64, lat0: i64, lon0: i64, false_origin: i64) -> Parameters {
     }
 }
 
-pub(crate) fn oblique(t: &Table)
+pub(crate) fn oblique(rt: &impl Print, t: &Table)
     requires { IsTable t.now }
 {
-    row(t, b"ETRS-LAEA", Parameters::etrs_laea());
+    row(rt, t, b"ETRS-LAEA", Parameters::etrs_laea());
     row(
+        rt,
         t,
         b"oblique sphere",
         set(600_000_000, 0, 144_000_000, -360_000_000, 0),
     );
     row(
+        rt,
         t,
         b"85 degrees north",
         set(
@@ -39,6 +41,7 @@ pub(crate) fn oblique(t: &Table)
         ),
     );
     row(
+        rt,
         t,
         b"85 degrees south",
         set(
@@ -51,25 +54,28 @@ pub(crate) fn oblique(t: &Table)
     );
 }
 
-pub(crate) fn equatorial(t: &Table)
+pub(crate) fn equatorial(rt: &impl Print, t: &Table)
     requires { IsTable t.now }
 {
     row(
+        rt,
         t,
         b"equatorial ellipsoid",
         set(637_813_700, 6_694_380, 0, 0, 0),
     );
     row(
+        rt,
         t,
         b"equatorial sphere",
         set(100_000_000, 0, 0, 648_000_000, 0),
     );
 }
 
-pub(crate) fn north_polar(t: &Table)
+pub(crate) fn north_polar(rt: &impl Print, t: &Table)
     requires { IsTable t.now }
 {
     row(
+        rt,
         t,
         b"north polar ellipsoid",
         set(
@@ -81,21 +87,24 @@ pub(crate) fn north_polar(t: &Table)
         ),
     );
     row(
+        rt,
         t,
         b"north polar sphere",
         set(600_000_000, 0, 324_000_000, 0, 0),
     );
 }
 
-pub(crate) fn south_polar(t: &Table)
+pub(crate) fn south_polar(rt: &impl Print, t: &Table)
     requires { IsTable t.now }
 {
     row(
+        rt,
         t,
         b"south polar ellipsoid",
         set(637_813_700, 10_000_000, -324_000_000, 0, 600_000_000),
     );
     row(
+        rt,
         t,
         b"south polar sphere",
         set(100_000_000, 0, -324_000_000, 324_000_000, 0),

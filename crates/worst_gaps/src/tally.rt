@@ -2,8 +2,6 @@
 ghost use Rattle.std.specs.Prelude.{◌≡◌, max};
 ghost use Rattle.worst_gaps.specs.InnerTallies.{no_trips, counted, with_trip, refused_once, is_within};
 
-use libc::STDOUT_FILENO;
-
 // Where a count stops.
 const COUNT_MOST: u64 = 1_000_000;
 
@@ -40,8 +38,8 @@ fn more(n: u64) -> u64
     COUNT_MOST
 }
 
-fn text(bytes: &[u8]) {
-    io::write_all(STDOUT_FILENO, bytes);
+fn text(rt: &impl Print, bytes: &[u8]) {
+    printing::print(rt, bytes);
 }
 
 impl Tally {
@@ -93,17 +91,17 @@ impl Tally {
         self.longitude <= GAP_BOUND
     }
 
-    pub(crate) fn print(self, name: &[u8]) {
-        text(name);
-        text(b":");
-        printing::size(self.trips);
-        text(b" round trips,");
-        printing::size(self.refused);
-        text(b" refused, worst latitude gap");
-        printing::size(self.latitude);
-        text(b" mas, worst longitude gap");
-        printing::size(self.longitude);
-        text(b" thousandths of a mas, within 40 mas");
-        printing::verdict(self.is_within_bounds());
+    pub(crate) fn print(self, rt: &impl Print, name: &[u8]) {
+        text(rt, name);
+        text(rt, b":");
+        printing::size(rt, self.trips);
+        text(rt, b" round trips,");
+        printing::size(rt, self.refused);
+        text(rt, b" refused, worst latitude gap");
+        printing::size(rt, self.latitude);
+        text(rt, b" mas, worst longitude gap");
+        printing::size(rt, self.longitude);
+        text(rt, b" thousandths of a mas, within 40 mas");
+        printing::verdict(rt, self.is_within_bounds());
     }
 }

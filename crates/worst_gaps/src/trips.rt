@@ -87,14 +87,14 @@ fn run(t: &Table, p: Parameters, k: Constants, count: u64) -> Tally
 }
 
 // One line for a set; one that is not accepted has no round trip.
-pub(crate) fn row(t: &Table, name: &[u8], p: Parameters)
+pub(crate) fn row(rt: &impl Print, t: &Table, name: &[u8], p: Parameters)
     requires { IsTable t.now }
 {
     let refusal = p.refusal();
     if refusal != 0 {
-        Tally::none().refuse().print(name);
+        Tally::none().refuse().print(rt, name);
         return;
     }
     let k = constants_of(t, p);
-    run(t, p, k, POSITIONS).print(name);
+    run(t, p, k, POSITIONS).print(rt, name);
 }

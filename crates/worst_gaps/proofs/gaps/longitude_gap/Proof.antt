@@ -14,7 +14,7 @@ use Rattle.worst_gaps.proofs.GapLaws.{gap_most}
 use Rattle.worst_gaps.proofs.gaps.longitude_gap.Statement.{statement}
 use Rattle.worst_gaps.proofs.gaps.longitude_gap.Tie as tie
 
-turn-gap-requires : tie.Need-turn-gap-requires
+turn-gap-requires : tie.Need-turn_gap-requires
 turn-gap-requires c κs =
     (read_size c.args.x c.requires.3 (lit< tt) (lit≤ tt), read_size c.args.y c.requires.4 (lit< tt) (lit≤ tt))
 
@@ -22,10 +22,10 @@ weight-requires : tie.Need-weight-requires
 weight-requires c κs = search rules
 
 -- what the two calls give
-turn_is : (c : tie.After-turn-gap) → c.turn_Gap.result ≡ turn_gap (c.before.args.y -ℤ c.before.args.x)
+turn_is : (c : tie.After-turn_gap) → c.turn_gap.result ≡ turn_gap (c.before.args.y -ℤ c.before.args.x)
 turn_is c =
     let start = c.before in
-    c.turn_Gap.ensures ∙ ap turn_gap (read_difference start.args.x start.args.y start.requires.3 (lit< tt) start.requires.4 (lit< tt))
+    c.turn_gap.ensures ∙ ap turn_gap (read_difference start.args.x start.args.y start.requires.3 (lit< tt) start.requires.4 (lit< tt))
 
 weight_is : (c : tie.After-weight) → c.weight.result ≡ nat_abs (cosine (beta c.before.before.args.series c.before.before.args.lat).0)
 weight_is c = ap nat_abs c.weight.ensures
@@ -38,5 +38,5 @@ returns : tie.Need-returns
 returns c =
     c.thousandths.ensures ∙ ap₂ (λ (turn weight : ℕ). thousandths_of (turn * weight)) (turn_is c.before.before) (weight_is c.before)
 
-pub longitude-gap-spec : {M : Type 1} → statement M
-longitude-gap-spec = tie.close (tie.spec turn-gap-requires weight-requires thousandths-requires returns)
+pub longitude_gap_spec : {M : Type 1} → statement M
+longitude_gap_spec = tie.close (tie.spec turn-gap-requires weight-requires thousandths-requires returns)

@@ -5,14 +5,14 @@ use native.Mathlib.Omega.{arith}
 use Rattle.worst_gaps.proofs.gaps.thousandths.Statement.{statement}
 use Rattle.worst_gaps.proofs.gaps.thousandths.Tie as tie
 
-mul-result : tie.Need-overflow-mul-result
+mul-result : tie.Need-overflow_mul-result
 mul-result c = omega (arith, mul-le-mul c.requires.0 c.requires.1)
 
-add-result : tie.Need-overflow-add-result
+add-result : tie.Need-overflow_add-result
 add-result c = omega (arith, mul-le-mul c.requires.0 c.requires.1)
 
 returns : tie.Need-returns
 returns c = search rules
 
-pub thousandths-spec : {M : Type 1} → statement M
-thousandths-spec = tie.close (tie.spec mul-result add-result returns)
+pub thousandths_spec : {M : Type 1} → statement M
+thousandths_spec = tie.close (tie.spec mul-result add-result returns)

@@ -17,14 +17,14 @@ use Rattle.latitudes.proofs.AuthalicLaws.{beta_size}
 use Rattle.worst_gaps.proofs.gaps.weight.Statement.{statement}
 use Rattle.worst_gaps.proofs.gaps.weight.Tie as tie
 
-to-authalic-requires : tie.Need-to-authalic-requires
+to-authalic-requires : tie.Need-to_authalic-requires
 to-authalic-requires c κs = search rules
 
 -- β of the latitude
-beta-is : (c : tie.After-to-authalic) → c.to-authalic.result.0 ≡ (beta c.before.args.series c.before.args.lat).0
-beta-is c = ap (λ (x : Authalic). x.0) c.to-authalic.ensures
+beta-is : (c : tie.After-to_authalic) → c.to_authalic.result.0 ≡ (beta c.before.args.series c.before.args.lat).0
+beta-is c = ap (λ (x : Authalic). x.0) c.to_authalic.ensures
 
-within : (c : tie.After-to-authalic) → nat_abs c.to-authalic.result.0 ≤ right_angle
+within : (c : tie.After-to_authalic) → nat_abs c.to_authalic.result.0 ≤ right_angle
 within c =
     let start = c.before in
     rw (beta-is c) (beta_size start.args.series start.requires.1 start.args.lat.0 start.requires.2)
@@ -38,7 +38,7 @@ magnitude-requires c κs = search rules
 returns : tie.Need-returns
 returns c =
     let authalic = c.before.before in
-    let β = authalic.to-authalic.result.0 in
+    let β = authalic.to_authalic.result.0 in
     ap pos
     (c.magnitude.ensures
     ∙ ap (λ (z : ℤ). nat_abs (to_z w64 (of_z w64 z))) c.before.cosine.ensures
@@ -46,5 +46,5 @@ returns c =
     ∙ pos_abs (cosine_nonneg β (within authalic))
     ∙ ap cosine (beta-is authalic)
 
-pub weight-spec : {M : Type 1} → statement M
-weight-spec = tie.close (tie.spec to-authalic-requires cosine-requires magnitude-requires returns)
+pub weight_spec : {M : Type 1} → statement M
+weight_spec = tie.close (tie.spec to-authalic-requires cosine-requires magnitude-requires returns)

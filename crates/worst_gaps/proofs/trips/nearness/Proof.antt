@@ -20,21 +20,21 @@ use Rattle.worst_gaps.proofs.trips.nearness.Statement.{statement}
 use Rattle.worst_gaps.proofs.trips.nearness.Tie as tie
 
 -- where the function started, and its constants
-abbrev start-at-direction-of : tie.After-direction-of → tie.Start
+abbrev start-at-direction-of : tie.After-direction_of → tie.Start
 start-at-direction-of c = c.before.before.before
 
 constants-sound : (c : tie.Start) → Sound c.args.k
 constants-sound c = sound_as c.args.p c.args.k c.requires.0.set_accepted c.requires.0.constants
 
 lon0-size : (c : tie.Start) → nat_abs c.args.p.lon0 ≤ half_turn
-lon0-size c = (accepted_fields c.args.p c.requires.0.set_accepted).lon0-size
+lon0-size c = (accepted_fields c.args.p c.requires.0.set_accepted).lon0_size
 
-sub-direction-of : tie.Need-overflow-sub-direction-of
+sub-direction-of : tie.Need-overflow_sub-lon
 sub-direction-of c =
     let start = c.before.before in
     fits (search (code, start.requires.2, lon0-size start) depth 40 fits 20000) tt
 
-direction-of-requires : tie.Need-direction-of-requires
+direction-of-requires : tie.Need-direction_of-requires
 direction-of-requires c κs =
     let start = c.before.before in
     let constants = constants-sound start in (
@@ -55,10 +55,10 @@ unfolding nearness direction_of
 returns c =
     let start = start-at-direction-of c.before in
     let Δ = start.args.lon -ℤ start.args.p.lon0 in
-    ap (λ (d : Direction). to_z w64 (of_z w64 d.g)) c.before.direction-of.ensures
+    ap (λ (d : Direction). to_z w64 (of_z w64 d.g)) c.before.direction_of.ensures
     ∙ ap (λ (z : ℤ). to_z w64 (of_z w64 (G start.args.k start.args.lat z))) (difference-read start)
     ∙ kept (G start.args.k start.args.lat Δ) (G-size start.args.k (constants-sound start).centre start.args.lat Δ) (lit< tt)
-    ∙ ap (λ (k : Constants). G k start.args.lat Δ) start.pre.0.constants
+    ∙ ap (λ (k : Constants). G k start.args.lat Δ) start.requires.0.constants
 
-pub nearness-spec : {M : Type 1} → statement M
-nearness-spec = tie.close (tie.spec sub-direction-of direction-of-requires returns)
+pub nearness_spec : {M : Type 1} → statement M
+nearness_spec = tie.close (tie.spec sub-direction-of direction-of-requires returns)

@@ -23,29 +23,29 @@ use Rattle.worst_gaps.proofs.trips.step.Tie as tie
 
 -- ---- the position
 
-abbrev spread-at-spread2 : tie.After-spread2 → tie.After-spread
+abbrev spread-at-spread2 : tie.After-spread-lon → tie.After-spread
 spread-at-spread2 c = c.before.before
 
-abbrev start-at-spread2 : tie.After-spread2 → tie.Start
+abbrev start-at-spread2 : tie.After-spread-lon → tie.Start
 start-at-spread2 c = (spread-at-spread2 c).before
 
 abbrev start-at-nearness : tie.After-nearness → tie.Start
 start-at-nearness c = start-at-spread2 c.before
 
 -- as the calls read them back
-abbrev lat : tie.After-spread2 → ℤ
+abbrev lat : tie.After-spread-lon → ℤ
 lat c = to_z w64 (of_z w64 (spread-at-spread2 c).spread.result)
 
-abbrev lon : tie.After-spread2 → ℤ
-lon c = to_z w64 (of_z w64 c.spread2.result)
+abbrev lon : tie.After-spread-lon → ℤ
+lon c = to_z w64 (of_z w64 c.spread-lon.result)
 
-lat-is : (c : tie.After-spread2) → lat c ≡ (latitude_at (start-at-spread2 c).args.s).0
-lat-is c = returned (spread-at-spread2 c).spread.type-inv ∙ (spread-at-spread2 c).spread.ensures
+lat-is : (c : tie.After-spread-lon) → lat c ≡ (latitude_at (start-at-spread2 c).args.s).0
+lat-is c = returned (spread-at-spread2 c).spread.type_inv ∙ (spread-at-spread2 c).spread.ensures
 
-lon-is : (c : tie.After-spread2) → lon c ≡ longitude_at (start-at-spread2 c).args.s
-lon-is c = returned c.spread2.type-inv ∙ c.spread2.ensures ∙ ap (λ (n : ℕ). spread_of n half_turn) c.before.next.ensures
+lon-is : (c : tie.After-spread-lon) → lon c ≡ longitude_at (start-at-spread2 c).args.s
+lon-is c = returned c.spread-lon.type_inv ∙ c.spread-lon.ensures ∙ ap (λ (n : ℕ). spread_of n half_turn) c.before.next.ensures
 
-on-globe : (c : tie.After-spread2) → (nat_abs (lat c) ≤ right_angle) × (nat_abs (lon c) ≤ half_turn)
+on-globe : (c : tie.After-spread-lon) → (nat_abs (lat c) ≤ right_angle) × (nat_abs (lon c) ≤ half_turn)
 on-globe c =
     let s = (start-at-spread2 c).args.s in
     (rw (lat-is c) (le_trans (spread_size s farthest_latitude) (lit≤ tt)), rw (lon-is c) (spread_size (next_of s) half_turn))
@@ -62,7 +62,7 @@ near-is : (c : tie.After-nearness) →
     let start = start-at-nearness c in
     to_z w64 (of_z w64 c.nearness.result) ≡ nearness start.args.p (latitude_at start.args.s) (longitude_at start.args.s)
 near-is c =
-    returned c.nearness.type-inv
+    returned c.nearness.type_inv
     ∙ c.nearness.ensures
     ∙ ap₂ (λ (φ lon : ℤ). nearness (start-at-nearness c).args.p (record { 0 = φ }) lon) (lat-is c.before) (lon-is c.before)
 
@@ -72,7 +72,7 @@ spread-requires c κs = search rules
 next-requires : tie.Need-next-requires
 next-requires c κs = search rules
 
-spread-requires-2 : tie.Need-spread-requires-2
+spread-requires-2 : tie.Need-spread-lon-requires
 spread-requires-2 c κs = search rules
 
 nearness-requires : tie.Need-nearness-requires
@@ -80,23 +80,23 @@ nearness-requires c κs =
     let globe = on-globe c in
     ((start-at-spread2 c).requires, globe.0, globe.1)
 
-returns : tie.Need-returns
+returns : tie.Need-returns-then-nearness-lt-LEAST_NEARNESS
 unfolding step_of
 returns c =
     let at = c.before in
-    rw (rw (near-is at) at (below (to_z w64 (of_z w64 at.nearness.result)) (pos least_nearness) c.if1.true))
+    rw (rw (near-is at) at (below (to_z w64 (of_z w64 at.nearness.result)) (pos least_nearness) c.if-nearness-lt-LEAST_NEARNESS.true))
 
 trip-requires : tie.Need-trip-requires
 trip-requires c κs =
     let globe = on-globe c.before.before in
     ((start-at-nearness c.before).requires, globe.0, globe.1)
 
-returns-2 : tie.Need-returns-2
+returns-2 : tie.Need-returns
 unfolding step_of
 returns-2 c =
     let at = c.before.before in
     let start = start-at-nearness at in
-    rw (rw (near-is at) at (not-below (to_z w64 (of_z w64 at.nearness.result)) (pos least_nearness) c.before.if1.false))
+    rw (rw (near-is at) at (not-below (to_z w64 (of_z w64 at.nearness.result)) (pos least_nearness) c.before.if-nearness-lt-LEAST_NEARNESS.false))
     (c.trip.ensures ∙ ap₂ (λ (φ lon : ℤ). trip_of start.args.p (record { 0 = φ }) lon start.args.seen) (lat-is at.before) (lon-is at.before))
 
 pub step_spec : {M : Type 1} → statement M

@@ -13,7 +13,7 @@ larger-requires-2 : tie.Need-larger-requires-2
 larger-requires-2 c κs = search rules
 
 returns : tie.Need-returns
-returns c = rw (← c.larger2.ensures, ← c.before.larger.ensures, ← c.before.before.more.ensures)
+returns c = rw (← c.larger-2.ensures, ← c.before.larger.ensures, ← c.before.before.more.ensures)
 
 pub add_spec : {M : Type 1} → statement M
 add_spec = tie.close (tie.spec more-requires larger-requires larger-requires-2 returns)

@@ -11,17 +11,17 @@ use Rattle.worst_gaps.proofs.tally.Tally.is_within_bounds.Tie as tie
 last : {a b : Bool} {c : Bool} → a ≡ true → b ≡ true → c ≡ (a && b && c)
 last e f = rw (e, f)
 
-returns : tie.Need-returns
+returns : tie.Need-returns-then-self-ne0
 unfolding is_within
-returns c = simp (ne_eqb _ _ c.if1.true)
+returns c = simp (ne_eqb _ _ c.if-self-ne0.true)
 
-returns-2 : tie.Need-returns-2
+returns-2 : tie.Need-returns-then-self-gt-LATITUDE_BOUND
 unfolding is_within
-returns-2 c = simp (eq-eqb _ _ c.before.before.if1.false, lt-leb _ _ c.if2.true)
+returns-2 c = simp (eq-eqb _ _ c.before.before.if-self-ne0.false, lt-leb _ _ c.if-self-gt-LATITUDE_BOUND.true)
 
-returns-3 : tie.Need-returns-3
+returns-3 : tie.Need-returns
 unfolding is_within
-returns-3 c = last (eq-eqb _ _ c.before.before.before.if1.false) (le-leb _ _ c.before.if2.false)
+returns-3 c = last (eq-eqb _ _ c.before.before.before.if-self-ne0.false) (le-leb _ _ c.before.if-self-gt-LATITUDE_BOUND.false)
 
-pub is-within-bounds-spec : {M : Type 1} → statement M
-is-within-bounds-spec = tie.close (tie.spec returns returns-2 returns-3)
+pub is_within_bounds_spec : {M : Type 1} → statement M
+is_within_bounds_spec = tie.close (tie.spec returns returns-2 returns-3)

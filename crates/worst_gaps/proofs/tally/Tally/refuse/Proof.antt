@@ -9,5 +9,5 @@ more-requires c κs = search rules
 returns : tie.Need-returns
 returns c = rw (← c.more.ensures)
 
-pub refuse-spec : {M : Type 1} → statement M
-refuse-spec = tie.close (tie.spec more-requires returns)
+pub refuse_spec : {M : Type 1} → statement M
+refuse_spec = tie.close (tie.spec more-requires returns)
