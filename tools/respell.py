@@ -59,7 +59,7 @@ def respelled(name):
 
 
 def is_function_proof(path):
-    return path.endswith(("/Proof.antt", "/Answers.antt", "/Invariants.antt"))
+    return "/proofs/" in path and path.endswith(("/Proof.antt", "/Answers.antt", "/Invariants.antt"))
 
 
 def declared(text):

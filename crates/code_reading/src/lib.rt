@@ -11,7 +11,7 @@ use text::{Numeral, find, has_leading_zero, is_same, read_unsigned};
 use units::refusals::NOT_A_CODE;
 
 // The side and the numbers of the cell, or the refusal number alone.
-#[derive(Drop)]
+#[derive(Clone, Copy)]
 pub enum ReadCode {
     Cell { side: i64, east: i64, north: i64 },
     Refused(u8),

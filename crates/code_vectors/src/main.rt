@@ -4,12 +4,12 @@
 mod reading;
 mod writing;
 
-fn main() {
-    writing::document_001();
-    writing::ends();
-    writing::refused();
-    writing::rooms();
-    reading::codes();
-    reading::not_numbers();
-    reading::not_codes();
+fn main(rt: HostRuntime) {
+    writing::document_001(&rt);
+    writing::ends(&rt);
+    writing::refused(&rt);
+    writing::rooms(&rt);
+    reading::codes(&rt);
+    reading::not_numbers(&rt);
+    reading::not_codes(&rt);
 }

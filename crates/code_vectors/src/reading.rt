@@ -35,75 +35,75 @@ fn is_unread(answer: ReadCode, right: u8) -> bool
     found == right
 }
 
-fn numbers(side: i64, east: i64, north: i64) {
-    number(side);
-    number(east);
-    number(north);
+fn numbers(rt: &impl Print, side: i64, east: i64, north: i64) {
+    number(rt, side);
+    number(rt, east);
+    number(rt, north);
 }
 
-fn show(answer: ReadCode) {
+fn show(rt: &impl Print, answer: ReadCode) {
     match answer {
         ReadCode::Cell { side, east, north } => {
-            numbers(side, east, north);
+            numbers(rt, side, east, north);
         }
         ReadCode::Refused(found) => {
-            refusal(found);
+            refusal(rt, found);
         }
     }
 }
 
 // The row up to what is expected.
-fn run(bytes: &[u8]) -> ReadCode
+fn run(rt: &impl Print, bytes: &[u8]) -> ReadCode
     ensures { result ≡ code_of bytes.now }
 {
-    print(b"read ");
-    print(bytes);
-    print(b":");
+    print(rt, b"read ");
+    print(rt, bytes);
+    print(rt, b":");
     let found = read_code(bytes);
-    show(found);
-    print(b", expected");
+    show(rt, found);
+    print(rt, b", expected");
     found
 }
 
-fn row(bytes: &[u8], side: i64, east: i64, north: i64) -> bool
+fn row(rt: &impl Print, bytes: &[u8], side: i64, east: i64, north: i64) -> bool
     ensures { result ≡ is_cell (code_of bytes.now) side east north }
 {
-    let found = run(bytes);
-    numbers(side, east, north);
-    verdict(is_cell(found, side, east, north))
+    let found = run(rt, bytes);
+    numbers(rt, side, east, north);
+    verdict(rt, is_cell(found, side, east, north))
 }
 
-fn not_a_code(bytes: &[u8]) -> bool
+fn not_a_code(rt: &impl Print, bytes: &[u8]) -> bool
     ensures { result ≡ is_unread (code_of bytes.now) 31 }
 {
-    let found = run(bytes);
-    refusal(NOT_A_CODE);
-    verdict(is_unread(found, NOT_A_CODE))
+    let found = run(rt, bytes);
+    refusal(rt, NOT_A_CODE);
+    verdict(rt, is_unread(found, NOT_A_CODE))
 }
 
-pub(crate) fn codes() {
-    row(b"1kmN2999E3962", SIDE_1_KM, 3_962, 2_999);
-    row(b"100mN0E0", SIDE_100_M, 0, 0);
-    row(b"100mN500000E500000", SIDE_100_M, 500_000, 500_000);
-    row(b"1kmN50000E50000", SIDE_1_KM, 50_000, 50_000);
-    row(b"10kmN5000E5000", SIDE_10_KM, 5_000, 5_000);
+pub(crate) fn codes(rt: &impl Print) {
+    row(rt, b"1kmN2999E3962", SIDE_1_KM, 3_962, 2_999);
+    row(rt, b"100mN0E0", SIDE_100_M, 0, 0);
+    row(rt, b"100mN500000E500000", SIDE_100_M, 500_000, 500_000);
+    row(rt, b"1kmN50000E50000", SIDE_1_KM, 50_000, 50_000);
+    row(rt, b"10kmN5000E5000", SIDE_10_KM, 5_000, 5_000);
 }
 
 // Bytes that name no side, or that are no cell number; one past the largest is none.
-pub(crate) fn not_numbers() {
-    not_a_code(b"10mN1E1");
-    not_a_code(b"1KMN1E1");
-    not_a_code(b"1kmN01E1");
-    not_a_code(b"1kmN+1E1");
-    not_a_code(b"1kmN50001E0");
-    not_a_code(b"10kmN0E5001");
+pub(crate) fn not_numbers(rt: &impl Print) {
+    not_a_code(rt, b"10mN1E1");
+    not_a_code(rt, b"1KMN1E1");
+    not_a_code(rt, b"1kmN01E1");
+    not_a_code(rt, b"1kmN+1E1");
+    not_a_code(rt, b"1kmN50001E0");
+    not_a_code(rt, b"10kmN0E5001");
 }
 
 // Letters exchanged, a byte more, and less than a code.
-pub(crate) fn not_codes() {
-    not_a_code(b"1kmE1N1");
-    not_a_code(b"1kmN1E1 ");
-    not_a_code(b"1kmN1E");
-    not_a_code(b"1km");
-    not_a_code(b"");
+pub(crate) fn not_codes(rt: &impl Print) {
+    not_a_code(rt, b"1kmE1N1");
+    not_a_code(rt, b"1kmN1E1 ");
+    not_a_code(rt, b"1kmN1E");
+    not_a_code(rt, b"1km");
+    not_a_code(rt, b"");
 }

@@ -30,29 +30,30 @@ fn is_answer(found: WrittenCode, right: WrittenCode) -> bool
     }
 }
 
-fn asked(side: i64, east: i64, north: i64) {
-    print(b"write");
-    number(side);
-    number(east);
-    number(north);
-    print(b":");
+fn asked(rt: &impl Print, side: i64, east: i64, north: i64) {
+    print(rt, b"write");
+    number(rt, side);
+    number(rt, east);
+    number(rt, north);
+    print(rt, b":");
 }
 
-fn show(answer: WrittenCode, bytes: &[u8]) {
+fn show(rt: &impl Print, answer: WrittenCode, bytes: &[u8]) {
     match answer {
         WrittenCode::Length(n) => {
-            size(n);
+            size(rt, n);
         }
         WrittenCode::Refused(n) => {
-            refusal(n);
+            refusal(rt, n);
         }
     }
-    print(b" ");
-    print(bytes);
+    print(rt, b" ");
+    print(rt, bytes);
 }
 
 // Writes into the bytes that are lent.
 fn row(
+    rt: &impl Print,
     side: i64,
     east: i64,
     north: i64,
@@ -62,18 +63,19 @@ fn row(
 ) -> bool
     ensures { result ≡ is_written side east north bytes.old right expected.now }
 {
-    asked(side, east, north);
+    asked(rt, side, east, north);
     let found = write_code(side, east, north, bytes);
-    show(found, bytes);
-    print(b", expected");
-    show(right, expected);
-    verdict(both(is_answer(found, right), is_same(bytes, expected)))
+    show(rt, found, bytes);
+    print(rt, b", expected");
+    show(rt, right, expected);
+    verdict(rt, both(is_answer(found, right), is_same(bytes, expected)))
 }
 
 // Writes into twenty bytes.
-fn written(side: i64, east: i64, north: i64, length: u64, expected: &[u8]) {
+fn written(rt: &impl Print, side: i64, east: i64, north: i64, length: u64, expected: &[u8]) {
     let mut bytes = LENT;
     row(
+        rt,
         side,
         east,
         north,
@@ -83,9 +85,10 @@ fn written(side: i64, east: i64, north: i64, length: u64, expected: &[u8]) {
     );
 }
 
-fn refused_row(side: i64, east: i64, north: i64, n: u8) {
+fn refused_row(rt: &impl Print, side: i64, east: i64, north: i64, n: u8) {
     let mut bytes = LENT;
     row(
+        rt,
         side,
         east,
         north,
@@ -96,10 +99,11 @@ fn refused_row(side: i64, east: i64, north: i64, n: u8) {
 }
 
 // The position of document 001's example, through forward and cell.
-pub(crate) fn document_001() {
+pub(crate) fn document_001(rt: &impl Print) {
     let plane = plane_told(forward(Parameters::etrs_laea(), Geodetic(180_000_000), 18_000_000));
     let found = cell_told(cell(SIDE_1_KM, plane.first, plane.second));
     written(
+        rt,
         SIDE_1_KM,
         found.first,
         found.second,
@@ -109,27 +113,35 @@ pub(crate) fn document_001() {
 }
 
 // The shortest and the longest code of each side.
-pub(crate) fn ends() {
-    written(SIDE_100_M, 0, 0, 8, b"100mN0E0............");
-    written(SIDE_100_M, 500_000, 500_000, 18, b"100mN500000E500000..");
-    written(SIDE_1_KM, 0, 0, 7, b"1kmN0E0.............");
-    written(SIDE_1_KM, 50_000, 50_000, 15, b"1kmN50000E50000.....");
-    written(SIDE_10_KM, 0, 0, 8, b"10kmN0E0............");
-    written(SIDE_10_KM, 5_000, 5_000, 14, b"10kmN5000E5000......");
+pub(crate) fn ends(rt: &impl Print) {
+    written(rt, SIDE_100_M, 0, 0, 8, b"100mN0E0............");
+    written(
+        rt,
+        SIDE_100_M,
+        500_000,
+        500_000,
+        18,
+        b"100mN500000E500000..",
+    );
+    written(rt, SIDE_1_KM, 0, 0, 7, b"1kmN0E0.............");
+    written(rt, SIDE_1_KM, 50_000, 50_000, 15, b"1kmN50000E50000.....");
+    written(rt, SIDE_10_KM, 0, 0, 8, b"10kmN0E0............");
+    written(rt, SIDE_10_KM, 5_000, 5_000, 14, b"10kmN5000E5000......");
 }
 
-pub(crate) fn refused() {
-    refused_row(1_000, 0, 0, OUT_OF_LIMITS);
-    refused_row(SIDE_100_M, 500_001, -1, OUT_OF_LIMITS);
-    refused_row(SIDE_1_KM, -1, -50_001, OUT_OF_LIMITS);
-    refused_row(SIDE_10_KM, -5_000, 0, NEGATIVE_CELL);
-    refused_row(SIDE_10_KM, 5_000, -1, NEGATIVE_CELL);
+pub(crate) fn refused(rt: &impl Print) {
+    refused_row(rt, 1_000, 0, 0, OUT_OF_LIMITS);
+    refused_row(rt, SIDE_100_M, 500_001, -1, OUT_OF_LIMITS);
+    refused_row(rt, SIDE_1_KM, -1, -50_001, OUT_OF_LIMITS);
+    refused_row(rt, SIDE_10_KM, -5_000, 0, NEGATIVE_CELL);
+    refused_row(rt, SIDE_10_KM, 5_000, -1, NEGATIVE_CELL);
 }
 
 // As many bytes as the code has, and one less.
-pub(crate) fn rooms() {
+pub(crate) fn rooms(rt: &impl Print) {
     let mut eight = [b'.'; 8];
     row(
+        rt,
         SIDE_100_M,
         0,
         0,
@@ -139,6 +151,7 @@ pub(crate) fn rooms() {
     );
     let mut seven = [b'.'; 7];
     row(
+        rt,
         SIDE_100_M,
         0,
         0,

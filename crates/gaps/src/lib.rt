@@ -11,7 +11,7 @@ use units::UNIT_DIVISOR;
 use units::answers::Told;
 
 // The sizes of the differences of two pairs of values.
-#[derive(Drop)]
+#[derive(Clone, Copy)]
 pub struct Gaps {
     pub first: u64,
     pub second: u64,

@@ -12,7 +12,7 @@ use units::both;
 use units::refusals::{LITTLE_ROOM, NEGATIVE_CELL, unless};
 
 // How many bytes of the lent ones the code has, or the refusal number alone.
-#[derive(Drop)]
+#[derive(Clone, Copy)]
 pub enum WrittenCode {
     Length(u64),
     Refused(u8),

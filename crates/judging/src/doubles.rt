@@ -62,7 +62,7 @@ pub fn is_told(answer: ListAnswer, refusal: u8, count: u64) -> bool
 }
 
 // The sum of numbers, and the sum of the sums on the way: they turn with each number and with each place.
-#[derive(Drop)]
+#[derive(Clone, Copy)]
 pub struct Digest {
     pub sum: u64,
     pub sums: u64,

@@ -17,7 +17,7 @@ use units::refusals::{LONG_LISTS, UNEQUAL_LISTS, unless};
 const LONGEST: usize = 4_096;
 
 // The count of the marks that are 0, or the refusal number alone.
-#[derive(Drop)]
+#[derive(Clone, Copy)]
 pub enum ListAnswer {
     Count(u64),
     Refused(u8),

@@ -1,6 +1,6 @@
 -- What a list call on parts of arrays leaves: the call says what each lent part holds after it, and the rest of each array stands behind
 -- its part. Assumes nothing.
-use Rattle.std.proofs.Common.{◌≡◌, ℕ, Bool, ◌&&◌, List, ◌++◌, take, drop, ap, ◌∙◌, ap₂}
+use Rattle.std.proofs.Common.{◌≡◌, ℕ, Bool, List, ◌++◌, take, drop, ap, ◌∙◌, ap₂}
 use lib.Ieee.{Float}
 use Rattle.parameters.specs.declared.Parameters.{Parameters}
 use Rattle.point_lists.specs.declared.ListAnswer.{ListAnswer}
@@ -8,9 +8,9 @@ use Rattle.row_lists.specs.Rows.{zeros}
 use Rattle.row_lists.specs.InnerRows.{row_of}
 use Rattle.point_lists.specs.Lists.{list_answer, ListCall}
 use Rattle.judging.specs.declared.doubles.Digest.{Digest}
-use Rattle.judging.specs.InnerDoubles.{is_told, digest_of, same_digest}
+use Rattle.judging.specs.InnerDoubles.{digest_of}
 use Rattle.point_vectors.specs.declared.list_rows.Outcome.{Outcome}
-use Rattle.point_vectors.specs.InnerLists.{filled, marks_of, steps_of, refusal_of, outcome_of, untouched_digest, is_counted, is_refused}
+use Rattle.point_vectors.specs.InnerLists.{filled, marks_of, steps_of, refusal_of, outcome_of}
 
 module _ (p : Parameters) (forward : Bool) (a b c d e : ℕ) (x y : Float) {leading trailing : List Float} {marks : List ℕ} {answer : ListAnswer}
     {digest : Digest} where
@@ -36,14 +36,3 @@ module _ (p : Parameters) (forward : Bool) (a b c d e : ℕ) (x y : Float) {lead
       digest ≡ digest_of (leading ++ drop c first) (trailing ++ drop d second) (marks ++ drop e filled-marks) →
       ◌≡◌ {A = Outcome} (record { answer = answer; digest = digest }) (outcome_of p forward a b c d e x y)
   outcome_is f g h i j call is = left (rw (f, g, h, i, j) at call) (rw (h, i, j) at is)
-
--- ---- a row's verdict from what its calls gave
-
-module _ {b told alike : Bool} (found outcome : Outcome) (both : b ≡ (told && alike)) (is : found ≡ outcome) where
-  pub counted_by : (n : ℕ) (right : Digest) → told ≡ is_told found.answer 0 n → alike ≡ same_digest found.digest right → b ≡ is_counted outcome n right
-  counted_by n right f g = both ∙ ap₂ ◌&&◌ f g ∙ ap (λ (o : Outcome). is_counted o n right) is
-
-  pub refused_by : (number : ℕ) {before : Digest} → told ≡ is_told found.answer number 0 → alike ≡ same_digest found.digest before →
-      before ≡ untouched_digest → b ≡ is_refused outcome number
-  refused_by number f g h =
-      both ∙ ap₂ ◌&&◌ f (g ∙ ap (same_digest found.digest) h) ∙ ap (λ (o : Outcome). is_refused o number) is

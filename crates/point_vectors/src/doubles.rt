@@ -5,20 +5,20 @@ use printing::words;
 use printing::words::word;
 
 // The bits in hexadecimal, or a name.
-pub(crate) fn show(x: f64) {
+pub(crate) fn show(rt: &impl Print, x: f64) {
     if is_finite(x) {
-        printing::bits(bits(x));
+        printing::bits(rt, bits(x));
         return;
     }
     if x > 0.0 {
-        word(words::INFINITY);
+        word(rt, words::INFINITY);
         return;
     }
     if x < 0.0 {
-        word(words::MINUS_INFINITY);
+        word(rt, words::MINUS_INFINITY);
         return;
     }
-    word(words::NAN);
+    word(rt, words::NAN);
 }
 
 pub(crate) fn infinity() -> f64 {

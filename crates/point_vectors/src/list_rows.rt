@@ -123,47 +123,54 @@ fn untouched() -> Digest
     digest_of(&numbers(NUMBER), &numbers(NUMBER), &marks())
 }
 
-fn show_answer(answer: ListAnswer) {
+fn show_answer(rt: &impl Print, answer: ListAnswer) {
     match answer {
         ListAnswer::Count(n) => {
-            word(words::COUNT);
-            size(n);
+            word(rt, words::COUNT);
+            size(rt, n);
         }
         ListAnswer::Refused(n) => {
-            refusal(n);
+            refusal(rt, n);
         }
     }
 }
 
 // The row up to what was expected.
-fn asked(k: usize, forward: bool, answer: ListAnswer) {
-    name(k);
+fn asked(rt: &impl Print, k: usize, forward: bool, answer: ListAnswer) {
+    name(rt, k);
     if forward {
-        word(words::OF_DEGREES);
+        word(rt, words::OF_DEGREES);
     } else {
-        word(words::OF_METRES);
+        word(rt, words::OF_METRES);
     }
-    show_answer(answer);
-    word(words::EXPECTED);
+    show_answer(rt, answer);
+    word(rt, words::EXPECTED);
 }
 
-fn show_digest(digest: Digest) {
-    word(words::DIGEST);
-    bits(digest.sum);
-    bits(digest.sums);
+fn show_digest(rt: &impl Print, digest: Digest) {
+    word(rt, words::DIGEST);
+    bits(rt, digest.sum);
+    bits(rt, digest.sums);
 }
 
 // The row up to the count, and whether that is as expected.
-pub(crate) fn count_row(k: usize, forward: bool, answer: ListAnswer, right: u64) -> bool
+pub(crate) fn count_row(
+    rt: &impl Print,
+    k: usize,
+    forward: bool,
+    answer: ListAnswer,
+    right: u64,
+) -> bool
     ensures { result ≡ is_told answer 0 right }
 {
-    asked(k, forward, answer);
-    show_answer(ListAnswer::Count(right));
+    asked(rt, k, forward, answer);
+    show_answer(rt, ListAnswer::Count(right));
     is_told(answer, 0, right)
 }
 
 // Lists of n points of ETRS-LAEA; all are accepted.
 pub(crate) fn list_row(
+    rt: &impl Print,
     k: usize,
     forward: bool,
     n: usize,
@@ -178,16 +185,17 @@ pub(crate) fn list_row(
     let found = call(p, forward, n, n, n, n, n, x_step, y_step);
     let answer = found.answer;
     let digest = found.digest;
-    let counted = count_row(k, forward, answer, n as u64);
-    word(words::THEN);
-    show_digest(digest);
-    word(words::EXPECTED);
-    show_digest(right);
-    verdict(both(counted, are_same(digest, right)))
+    let counted = count_row(rt, k, forward, answer, n as u64);
+    word(rt, words::THEN);
+    show_digest(rt, digest);
+    word(rt, words::EXPECTED);
+    show_digest(rt, right);
+    verdict(rt, both(counted, are_same(digest, right)))
 }
 
 // Lists of these lengths, refused with the outputs as they were.
 pub(crate) fn list_refused(
+    rt: &impl Print,
     k: usize,
     p: Parameters,
     forward: bool,
@@ -204,8 +212,11 @@ pub(crate) fn list_refused(
     let found = call(p, forward, a, b, c, d, e, 0.0, 0.0);
     let answer = found.answer;
     let digest = found.digest;
-    asked(k, forward, answer);
-    refusal(number);
-    word(words::UNTOUCHED);
-    verdict(both(is_told(answer, number, 0), are_same(digest, untouched())))
+    asked(rt, k, forward, answer);
+    refusal(rt, number);
+    word(rt, words::UNTOUCHED);
+    verdict(
+        rt,
+        both(is_told(answer, number, 0), are_same(digest, untouched())),
+    )
 }

@@ -11,17 +11,17 @@ mod names;
 mod point_rows;
 mod sets;
 
-fn main() {
-    degrees_and_metres::centre();
-    degrees_and_metres::limits();
-    degrees_and_metres::plane_limits();
-    degrees_and_metres::zeros();
-    degrees_and_metres::halves();
-    degrees_and_metres::not_numbers();
-    degrees_and_metres::order();
-    degrees_and_metres::too_far();
-    lists::accepted();
-    lists::refusals();
-    mixed::of_degrees();
-    mixed::of_metres();
+fn main(rt: HostRuntime) {
+    degrees_and_metres::centre(&rt);
+    degrees_and_metres::limits(&rt);
+    degrees_and_metres::plane_limits(&rt);
+    degrees_and_metres::zeros(&rt);
+    degrees_and_metres::halves(&rt);
+    degrees_and_metres::not_numbers(&rt);
+    degrees_and_metres::order(&rt);
+    degrees_and_metres::too_far(&rt);
+    lists::accepted(&rt);
+    lists::refusals(&rt);
+    mixed::of_degrees(&rt);
+    mixed::of_metres(&rt);
 }

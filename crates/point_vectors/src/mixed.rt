@@ -27,16 +27,17 @@ fn row_at(i: usize, marks: &[u8; 8], leading: &Numbers, trailing: &Numbers) -> R
     }
 }
 
-fn element(place: u64, found: Row, right: Row) -> bool
+fn element(rt: &impl Print, place: u64, found: Row, right: Row) -> bool
     ensures { result ≡ alike found right }
 {
-    word(words::ELEMENT);
-    size(place);
-    compare(found, right)
+    word(rt, words::ELEMENT);
+    size(rt, place);
+    compare(rt, found, right)
 }
 
 // Each element found beside the one expected. Both lists have the same marks.
 fn elements(
+    rt: &impl Print,
     marks: &[u8; 8],
     leading: &Numbers,
     trailing: &Numbers,
@@ -57,12 +58,13 @@ fn elements(
     while i < 8 {
         let found = row_at(i, marks, leading, trailing);
         let right = row_at(i, &right_marks, right_leading, right_trailing);
-        element(i as u64, found, right);
+        element(rt, i as u64, found, right);
         i += 1;
     }
 }
 
 fn list(
+    rt: &impl Print,
     forward: bool,
     xs: &Numbers,
     ys: &Numbers,
@@ -74,11 +76,18 @@ fn list(
     let mut marks = [MARK; 8];
     let p = Parameters::etrs_laea();
     let found = run(p, forward, xs, ys, &mut leading, &mut trailing, &mut marks);
-    verdict(count_row(names::MIXED_LIST, forward, found, 2));
-    elements(&marks, &leading, &trailing, right_leading, right_trailing);
+    verdict(rt, count_row(rt, names::MIXED_LIST, forward, found, 2));
+    elements(
+        rt,
+        &marks,
+        &leading,
+        &trailing,
+        right_leading,
+        right_trailing,
+    );
 }
 
-pub(crate) fn of_degrees() {
+pub(crate) fn of_degrees(rt: &impl Print) {
     let xs = [52.0, nan(), 91.0, -52.0, 80.0, 52.0, 52.0, 91.0];
     let ys = [
         10.0,
@@ -92,10 +101,10 @@ pub(crate) fn of_degrees() {
     ];
     let leading = [4_321_000.0, 0.0, 0.0, 0.0, 4_532_329.67, 0.0, 0.0, 0.0];
     let trailing = [3_210_000.0, 0.0, 0.0, 0.0, 8_390_463.61, 0.0, 0.0, 0.0];
-    list(FORWARD, &xs, &ys, &leading, &trailing);
+    list(rt, FORWARD, &xs, &ys, &leading, &trailing);
 }
 
-pub(crate) fn of_metres() {
+pub(crate) fn of_metres(rt: &impl Print) {
     let xs = [
         4_321_000.0,
         nan(),
@@ -118,5 +127,5 @@ pub(crate) fn of_metres() {
     ];
     let leading = [52.0, 0.0, 0.0, 0.0, 50.0, 0.0, 0.0, 0.0];
     let trailing = [10.0, 0.0, 0.0, 0.0, 5.000000277777778, 0.0, 0.0, 0.0];
-    list(INVERSE, &xs, &ys, &leading, &trailing);
+    list(rt, INVERSE, &xs, &ys, &leading, &trailing);
 }

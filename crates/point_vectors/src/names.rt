@@ -84,8 +84,9 @@ pub(crate) const BAD_FIELD: usize = 38;
 
 pub(crate) const BAD_FIELD_1: usize = 39;
 
-pub(crate) fn name(k: usize) {
+pub(crate) fn name(rt: &impl Print, k: usize) {
     line(
+        rt,
         b"centre
 latitude 90
 next up

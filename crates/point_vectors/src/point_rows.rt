@@ -37,24 +37,24 @@ pub(crate) fn refused(number: u8) -> Row
     plane_row(PlanePairAnswer::Refused(number))
 }
 
-fn show_row(row: Row) {
+fn show_row(rt: &impl Print, row: Row) {
     if row.mark != 0 {
-        refusal(row.mark);
+        refusal(rt, row.mark);
     } else {
-        show(row.first);
-        show(row.second);
+        show(rt, row.first);
+        show(rt, row.second);
     }
 }
 
 // The end of a row.
-pub(crate) fn compare(found: Row, right: Row) -> bool
+pub(crate) fn compare(rt: &impl Print, found: Row, right: Row) -> bool
     ensures { result ≡ alike found right }
 {
-    word(words::ANSWER);
-    show_row(found);
-    word(words::EXPECTED);
-    show_row(right);
-    verdict(are_alike(found, right))
+    word(rt, words::ANSWER);
+    show_row(rt, found);
+    word(rt, words::EXPECTED);
+    show_row(rt, right);
+    verdict(rt, are_alike(found, right))
 }
 
 fn answer(forward: bool, p: Parameters, x: f64, y: f64) -> Row
@@ -74,20 +74,28 @@ fn answer(forward: bool, p: Parameters, x: f64, y: f64) -> Row
     geodetic_row(inverse_metres(p, at))
 }
 
-fn asked(k: usize, forward: bool, x: f64, y: f64) {
-    name(k);
+fn asked(rt: &impl Print, k: usize, forward: bool, x: f64, y: f64) {
+    name(rt, k);
     if forward {
-        word(words::DEGREES);
+        word(rt, words::DEGREES);
     } else {
-        word(words::METRES);
+        word(rt, words::METRES);
     }
-    show(x);
-    show(y);
+    show(rt, x);
+    show(rt, y);
 }
 
-pub(crate) fn row(k: usize, forward: bool, p: Parameters, x: f64, y: f64, right: Row) -> bool
+pub(crate) fn row(
+    rt: &impl Print,
+    k: usize,
+    forward: bool,
+    p: Parameters,
+    x: f64,
+    y: f64,
+    right: Row,
+) -> bool
     ensures { result ≡ alike (row_of forward p x y) right }
 {
-    asked(k, forward, x, y);
-    compare(answer(forward, p, x, y), right)
+    asked(rt, k, forward, x, y);
+    compare(rt, answer(forward, p, x, y), right)
 }

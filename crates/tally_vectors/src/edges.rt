@@ -21,8 +21,9 @@ fn filled(first: Tally, loop_number: u64, north: i64, count: u64) -> Tally {
 }
 
 // One cell more of the loop, and with what it is answered.
-fn further(tally: Tally, loop_number: u64, east: i64, right: u8) -> Tally {
+fn further(rt: &impl Print, tally: Tally, loop_number: u64, east: i64, right: u8) -> Tally {
     add(
+        rt,
         tally,
         cell_at(loop_number, east, -1),
         Reading::Power(1.0),
@@ -31,33 +32,33 @@ fn further(tally: Tally, loop_number: u64, east: i64, right: u8) -> Tally {
 }
 
 // One loop gets 160, and then the other its 96.
-pub(crate) fn one_loop() {
-    let tally = filled(make(SIDE_1_KM, 0), 1, 0, 159);
-    let tally = further(tally, 1, 0, 0);
-    let tally = further(tally, 1, 1, NO_NEW_SLOT);
+pub(crate) fn one_loop(rt: &impl Print) {
+    let tally = filled(make(rt, SIDE_1_KM, 0), 1, 0, 159);
+    let tally = further(rt, tally, 1, 0, 0);
+    let tally = further(rt, tally, 1, 1, NO_NEW_SLOT);
     let tally = filled(tally, 2, 0, 95);
-    let tally = further(tally, 2, 0, 0);
-    let tally = further(tally, 2, 1, NO_NEW_SLOT);
-    let tally = further(tally, 1, 1, NO_NEW_SLOT);
-    let tally = clear(tally, cell_at(2, 0, -1), 0);
-    let tally = further(tally, 1, 1, NO_NEW_SLOT);
-    let tally = further(tally, 2, 1, 0);
-    let tally = clear(tally, cell_at(1, 0, -1), 0);
-    let tally = further(tally, 2, 2, 0);
-    let tally = further(tally, 1, 1, NO_NEW_SLOT);
-    read(tally, cell_at(1, 0, -1), 0, 0, 0);
+    let tally = further(rt, tally, 2, 0, 0);
+    let tally = further(rt, tally, 2, 1, NO_NEW_SLOT);
+    let tally = further(rt, tally, 1, 1, NO_NEW_SLOT);
+    let tally = clear(rt, tally, cell_at(2, 0, -1), 0);
+    let tally = further(rt, tally, 1, 1, NO_NEW_SLOT);
+    let tally = further(rt, tally, 2, 1, 0);
+    let tally = clear(rt, tally, cell_at(1, 0, -1), 0);
+    let tally = further(rt, tally, 2, 2, 0);
+    let tally = further(rt, tally, 1, 1, NO_NEW_SLOT);
+    read(rt, tally, cell_at(1, 0, -1), 0, 0, 0);
 }
 
 // Both have 96, and then 64 more together.
-pub(crate) fn both_loops() {
-    let tally = filled(make(SIDE_1_KM, 0), 1, 0, 96);
+pub(crate) fn both_loops(rt: &impl Print) {
+    let tally = filled(make(rt, SIDE_1_KM, 0), 1, 0, 96);
     let tally = filled(tally, 2, 0, 96);
     let tally = filled(tally, 1, 1, 40);
     let tally = filled(tally, 2, 1, 23);
-    let tally = further(tally, 1, 0, 0);
-    let tally = further(tally, 1, 1, NO_NEW_SLOT);
-    let tally = further(tally, 2, 1, NO_NEW_SLOT);
-    let tally = clear(tally, cell_at(1, 0, -1), 0);
-    let tally = further(tally, 2, 1, 0);
-    further(tally, 2, 2, NO_NEW_SLOT);
+    let tally = further(rt, tally, 1, 0, 0);
+    let tally = further(rt, tally, 1, 1, NO_NEW_SLOT);
+    let tally = further(rt, tally, 2, 1, NO_NEW_SLOT);
+    let tally = clear(rt, tally, cell_at(1, 0, -1), 0);
+    let tally = further(rt, tally, 2, 1, 0);
+    further(rt, tally, 2, 2, NO_NEW_SLOT);
 }

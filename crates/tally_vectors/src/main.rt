@@ -7,14 +7,14 @@ mod many;
 mod million;
 mod rows;
 
-fn main() {
-    few::sides();
-    few::powers();
-    few::slots();
-    few::out_of_limits();
-    few::loops();
-    edges::one_loop();
-    edges::both_loops();
-    many::history();
-    million::history();
+fn main(rt: HostRuntime) {
+    few::sides(&rt);
+    few::powers(&rt);
+    few::slots(&rt);
+    few::out_of_limits(&rt);
+    few::loops(&rt);
+    edges::one_loop(&rt);
+    edges::both_loops(&rt);
+    many::history(&rt);
+    million::history(&rt);
 }

@@ -51,28 +51,28 @@ fn after_calls(first: Tally) -> Tally {
 }
 
 // 255 cells have a slot: the next gets the last one, and one of the other loop after it gets one that is freed for it.
-fn last_calls(tally: Tally) {
+fn last_calls(rt: &impl Print, tally: Tally) {
     let held = cell_at(1, 19, 6);
     let next = cell_at(1, 0, 0);
     let late = cell_at(2, 1, 0);
-    let tally = add(tally, next, Reading::Power(1.0), 0);
-    let tally = add(tally, late, Reading::Power(1.0), NO_NEW_SLOT);
-    let tally = add(tally, late, Reading::Overloaded(1.0), NO_NEW_SLOT);
-    let tally = add(tally, held, Reading::Power(1.0), 0);
-    let tally = read(tally, held, 40_000_000, 6, 2);
-    let tally = clear(tally, held, 0);
-    let tally = add(tally, late, Reading::Power(2.0), 0);
-    let tally = add(tally, held, Reading::Power(1.0), NO_NEW_SLOT);
-    let tally = read(tally, held, 0, 0, 0);
-    read(tally, late, 2_000_000, 1, 0);
+    let tally = add(rt, tally, next, Reading::Power(1.0), 0);
+    let tally = add(rt, tally, late, Reading::Power(1.0), NO_NEW_SLOT);
+    let tally = add(rt, tally, late, Reading::Overloaded(1.0), NO_NEW_SLOT);
+    let tally = add(rt, tally, held, Reading::Power(1.0), 0);
+    let tally = read(rt, tally, held, 40_000_000, 6, 2);
+    let tally = clear(rt, tally, held, 0);
+    let tally = add(rt, tally, late, Reading::Power(2.0), 0);
+    let tally = add(rt, tally, held, Reading::Power(1.0), NO_NEW_SLOT);
+    let tally = read(rt, tally, held, 0, 0, 0);
+    read(rt, tally, late, 2_000_000, 1, 0);
 }
 
-pub(crate) fn history() {
-    let tally = after_calls(make(SIDE_100_M, 0));
+pub(crate) fn history(rt: &impl Print) {
+    let mut tally = after_calls(make(rt, SIDE_100_M, 0));
     let mut k: u64 = 0;
     while k < CELLS {
-        look(tally, cell_of(k));
+        tally = look(rt, tally, cell_of(k));
         k += 1;
     }
-    last_calls(tally);
+    last_calls(rt, tally);
 }

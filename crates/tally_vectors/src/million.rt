@@ -20,14 +20,14 @@ fn filled(first: Tally, cell: LoopCell) -> Tally {
     tally
 }
 
-pub(crate) fn history() {
+pub(crate) fn history(rt: &impl Print) {
     let cell = cell_at(2, -5_000, 5_000);
-    let tally = filled(make(SIDE_10_KM, 0), cell);
-    let tally = read(tally, cell, 1_000_000_000_000_000, 1_000_000, 0);
-    let tally = add(tally, cell, Reading::Power(0.0), FULL_CELL);
-    let tally = add(tally, cell, Reading::Overloaded(0.0), FULL_CELL);
-    let tally = read(tally, cell, 1_000_000_000_000_000, 1_000_000, 0);
-    let tally = clear(tally, cell, 0);
-    let tally = add(tally, cell, Reading::Overloaded(GREATEST), 0);
-    read(tally, cell, 0, 0, 1);
+    let tally = filled(make(rt, SIDE_10_KM, 0), cell);
+    let tally = read(rt, tally, cell, 1_000_000_000_000_000, 1_000_000, 0);
+    let tally = add(rt, tally, cell, Reading::Power(0.0), FULL_CELL);
+    let tally = add(rt, tally, cell, Reading::Overloaded(0.0), FULL_CELL);
+    let tally = read(rt, tally, cell, 1_000_000_000_000_000, 1_000_000, 0);
+    let tally = clear(rt, tally, cell, 0);
+    let tally = add(rt, tally, cell, Reading::Overloaded(GREATEST), 0);
+    read(rt, tally, cell, 0, 0, 1);
 }

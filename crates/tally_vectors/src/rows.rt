@@ -40,138 +40,154 @@ fn is_sums(answer: SumsAnswer, s: u64, c: u64, o: u64) -> bool
     }
 }
 
-fn show(right: u8) {
+fn show(rt: &impl Print, right: u8) {
     if right == 0 {
-        print(b" done");
+        print(rt, b" done");
     } else {
-        refusal(right);
+        refusal(rt, right);
     }
 }
 
-fn show_answer(answer: TallyAnswer) {
+fn show_answer(rt: &impl Print, answer: TallyAnswer) {
     match answer {
         TallyAnswer::Done => {
-            show(0);
+            show(rt, 0);
         }
         TallyAnswer::Refused(number) => {
-            show(number);
+            show(rt, number);
         }
     }
 }
 
-fn show_cell(cell: LoopCell) {
-    size(cell.loop_number);
-    number(cell.east);
-    number(cell.north);
+fn show_cell(rt: &impl Print, cell: LoopCell) {
+    size(rt, cell.loop_number);
+    number(rt, cell.east);
+    number(rt, cell.north);
 }
 
-fn show_sums(answer: SumsAnswer) {
+fn show_sums(rt: &impl Print, answer: SumsAnswer) {
     match answer {
         SumsAnswer::Sums {
             sum,
             count,
             overloads,
         } => {
-            size(sum);
-            size(count);
-            size(overloads);
+            size(rt, sum);
+            size(rt, count);
+            size(rt, overloads);
         }
         SumsAnswer::Refused(number) => {
-            refusal(number);
+            refusal(rt, number);
         }
     }
 }
 
 // The row from the answer on.
-fn end(next: NextTally, right: u8) -> Tally
+fn end(rt: &impl Print, next: NextTally, right: u8) -> Tally
     ensures { result ≡ next.tally }
 {
     let answer = next.answer;
-    print(b":");
-    show_answer(answer);
-    print(b", expected");
-    show(right);
-    verdict(is_number(answer, right));
+    print(rt, b":");
+    show_answer(rt, answer);
+    print(rt, b", expected");
+    show(rt, right);
+    verdict(rt, is_number(answer, right));
     next.tally
 }
 
-pub(crate) fn make(side: i64, right: u8) -> Tally
+pub(crate) fn make(rt: &impl Print, side: i64, right: u8) -> Tally
     ensures { result ≡ (made side).tally }
 {
-    print(b"make");
-    number(side);
-    end(Tally::new(side), right)
+    print(rt, b"make");
+    number(rt, side);
+    end(rt, Tally::new(side), right)
 }
 
 // The double's bit pattern, where it is a finite number.
-fn show_power(milliwatts: f64) {
+fn show_power(rt: &impl Print, milliwatts: f64) {
     if is_finite(milliwatts) {
-        bits(f64::to_bits(milliwatts));
+        bits(rt, f64::to_bits(milliwatts));
     } else {
-        print(b" not finite");
+        print(rt, b" not finite");
     }
 }
 
-fn show_reading(reading: Reading) {
+fn show_reading(rt: &impl Print, reading: Reading) {
     match reading {
         Reading::Power(milliwatts) => {
-            print(b" power");
-            show_power(milliwatts);
+            print(rt, b" power");
+            show_power(rt, milliwatts);
         }
         Reading::Overloaded(milliwatts) => {
-            print(b" overloaded");
-            show_power(milliwatts);
+            print(rt, b" overloaded");
+            show_power(rt, milliwatts);
         }
     }
 }
 
-pub(crate) fn add(tally: Tally, cell: LoopCell, reading: Reading, right: u8) -> Tally
+pub(crate) fn add(
+    rt: &impl Print,
+    tally: Tally,
+    cell: LoopCell,
+    reading: Reading,
+    right: u8,
+) -> Tally
     ensures { result ≡ (added tally cell reading).tally }
 {
-    print(b"add");
-    show_cell(cell);
-    show_reading(reading);
-    end(tally.add(cell, reading), right)
+    print(rt, b"add");
+    show_cell(rt, cell);
+    show_reading(rt, reading);
+    end(rt, tally.add(cell, reading), right)
 }
 
-pub(crate) fn clear(tally: Tally, cell: LoopCell, right: u8) -> Tally
+pub(crate) fn clear(rt: &impl Print, tally: Tally, cell: LoopCell, right: u8) -> Tally
     ensures { result ≡ (cleared tally cell).tally }
 {
-    print(b"clear");
-    show_cell(cell);
-    end(tally.clear(cell), right)
+    print(rt, b"clear");
+    show_cell(rt, cell);
+    end(rt, tally.clear(cell), right)
 }
 
 // The same of reading, from the sums on.
-fn end_read(read: ReadTally, sum: u64, count: u64, overloads: u64) -> Tally
+fn end_read(rt: &impl Print, read: ReadTally, sum: u64, count: u64, overloads: u64) -> Tally
     ensures { result ≡ read.tally }
 {
     let answer = read.answer;
-    print(b":");
-    show_sums(answer);
-    print(b", expected");
-    size(sum);
-    size(count);
-    size(overloads);
-    verdict(is_sums(answer, sum, count, overloads));
+    print(rt, b":");
+    show_sums(rt, answer);
+    print(rt, b", expected");
+    size(rt, sum);
+    size(rt, count);
+    size(rt, overloads);
+    verdict(rt, is_sums(answer, sum, count, overloads));
     read.tally
 }
 
-pub(crate) fn read(tally: Tally, cell: LoopCell, sum: u64, count: u64, overloads: u64) -> Tally
+pub(crate) fn read(
+    rt: &impl Print,
+    tally: Tally,
+    cell: LoopCell,
+    sum: u64,
+    count: u64,
+    overloads: u64,
+) -> Tally
     ensures { result ≡ (read_from tally cell).tally }
 {
-    print(b"read");
-    show_cell(cell);
-    end_read(tally.read(cell), sum, count, overloads)
+    print(rt, b"read");
+    show_cell(rt, cell);
+    end_read(rt, tally.read(cell), sum, count, overloads)
 }
 
 // Nothing is expected: the row is held to the stored output alone.
-pub(crate) fn look(tally: Tally, cell: LoopCell) {
-    print(b"read");
-    show_cell(cell);
-    print(b":");
+pub(crate) fn look(rt: &impl Print, tally: Tally, cell: LoopCell) -> Tally
+    ensures { result ≡ (read_from tally cell).tally }
+{
+    print(rt, b"read");
+    show_cell(rt, cell);
+    print(rt, b":");
     let read = tally.read(cell);
     let answer = read.answer;
-    show_sums(answer);
-    print(b"\n");
+    show_sums(rt, answer);
+    print(rt, b"\n");
+    read.tally
 }

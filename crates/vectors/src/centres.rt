@@ -7,26 +7,39 @@ use units::answers::accepted;
 // A longitude that is no centre's.
 const ELSEWHERE: i64 = 123_456_789;
 
-fn both_ways(k: usize, p: Parameters) {
+fn both_ways(rt: &impl Print, k: usize, p: Parameters) {
     let lat0 = p.lat0;
     let lat = lat0.0;
     let lon = p.lon0;
     let easting = p.false_easting;
     let northing = p.false_northing;
-    row(k, forward_of(p, lat, lon), accepted(easting, northing), 0);
-    row(k, inverse_of(p, easting, northing), accepted(lat, lon), 0);
+    row(
+        rt,
+        k,
+        forward_of(p, lat, lon),
+        accepted(easting, northing),
+        0,
+    );
+    row(
+        rt,
+        k,
+        inverse_of(p, easting, northing),
+        accepted(lat, lon),
+        0,
+    );
 }
 
 // At a pole every longitude is the centre.
-fn at_pole(k: usize, p: Parameters) {
+fn at_pole(rt: &impl Print, k: usize, p: Parameters) {
     let lat0 = p.lat0;
     let origin = accepted(p.false_easting, p.false_northing);
-    row(k, forward_of(p, lat0.0, ELSEWHERE), origin, 0);
+    row(rt, k, forward_of(p, lat0.0, ELSEWHERE), origin, 0);
 }
 
-pub(crate) fn off_the_poles() {
-    both_ways(names::OBLIQUE_CENTRE, Parameters::etrs_laea());
+pub(crate) fn off_the_poles(rt: &impl Print) {
+    both_ways(rt, names::OBLIQUE_CENTRE, Parameters::etrs_laea());
     both_ways(
+        rt,
         names::SOUTHERN_OBLIQUE_CENTRE,
         set(
             637_813_700,
@@ -38,6 +51,7 @@ pub(crate) fn off_the_poles() {
         ),
     );
     both_ways(
+        rt,
         names::EQUATORIAL_CENTRE,
         set(
             637_813_700,
@@ -50,7 +64,7 @@ pub(crate) fn off_the_poles() {
     );
 }
 
-pub(crate) fn polar() {
+pub(crate) fn polar(rt: &impl Print) {
     let north = set(
         637_838_800,
         6_722_670,
@@ -59,8 +73,8 @@ pub(crate) fn polar() {
         200_000_000,
         300_000_000,
     );
-    both_ways(names::NORTH_POLAR_CENTRE, north);
-    at_pole(names::NORTH_POLE_ELSEWHERE, north);
+    both_ways(rt, names::NORTH_POLAR_CENTRE, north);
+    at_pole(rt, names::NORTH_POLE_ELSEWHERE, north);
     let south = set(
         637_838_800,
         6_722_670,
@@ -69,6 +83,6 @@ pub(crate) fn polar() {
         200_000_000,
         -300_000_000,
     );
-    both_ways(names::SOUTH_POLAR_CENTRE, south);
-    at_pole(names::SOUTH_POLE_ELSEWHERE, south);
+    both_ways(rt, names::SOUTH_POLAR_CENTRE, south);
+    at_pole(rt, names::SOUTH_POLE_ELSEWHERE, south);
 }

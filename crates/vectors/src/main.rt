@@ -17,35 +17,35 @@ ghost use Rattle.sine_table.specs.Table.{IsTable};
 use sine_table::Table;
 
 // The rows that take sines themselves.
-fn with_sines(t: &Table)
+fn with_sines(rt: &impl Print, t: &Table)
     requires { IsTable t.now }
 {
-    words::sines(t);
-    words::angles(t);
-    examples::document_001(t);
-    examples::document_004_sphere(t);
-    examples::document_004_oblique(t);
-    examples::document_004_polar(t);
+    words::sines(rt, t);
+    words::angles(rt, t);
+    examples::document_001(rt, t);
+    examples::document_004_sphere(rt, t);
+    examples::document_004_oblique(rt, t);
+    examples::document_004_polar(rt, t);
 }
 
-fn main() {
+fn main(rt: HostRuntime) {
     let t = sine_table::table();
-    words::on_numbers();
-    with_sines(&t);
-    examples::exact_rows();
-    centres::off_the_poles();
-    centres::polar();
-    nearness::forward_on_sphere(&t);
-    nearness::inverse_on_sphere();
-    nearness::oblique();
-    nearness::polar();
-    bad_sets::extremes();
-    bad_sets::limits();
-    bad_sets::pairs();
-    bad_input::extremes();
-    bad_input::edges();
-    cell_rows::sides();
-    cell_rows::around_zero();
-    cell_rows::limits();
-    series_rows::rows(&t);
+    words::on_numbers(&rt);
+    with_sines(&rt, &t);
+    examples::exact_rows(&rt);
+    centres::off_the_poles(&rt);
+    centres::polar(&rt);
+    nearness::forward_on_sphere(&rt, &t);
+    nearness::inverse_on_sphere(&rt);
+    nearness::oblique(&rt);
+    nearness::polar(&rt);
+    bad_sets::extremes(&rt);
+    bad_sets::limits(&rt);
+    bad_sets::pairs(&rt);
+    bad_input::extremes(&rt);
+    bad_input::edges(&rt);
+    cell_rows::sides(&rt);
+    cell_rows::around_zero(&rt);
+    cell_rows::limits(&rt);
+    series_rows::rows(&rt, &t);
 }

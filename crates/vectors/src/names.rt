@@ -100,8 +100,9 @@ pub(crate) const OF_A_SET: usize = 45;
 
 pub(crate) const ETRS_LAEA: usize = 46;
 
-pub(crate) fn name(k: usize) {
+pub(crate) fn name(rt: &impl Print, k: usize) {
     line(
+        rt,
         b"near(5/2)
 near(-5/2)
 near(7/3)

@@ -37,7 +37,7 @@ pub(crate) fn set(
 }
 
 // What is asked: latitude and longitude forward, or easting and northing inverse.
-#[derive(Drop)]
+#[derive(Clone, Copy)]
 pub(crate) struct Question {
     pub(crate) forward: bool,
     pub(crate) set: Parameters,
@@ -77,86 +77,93 @@ fn answer(q: Question) -> Told
     geodetic_told(inverse(p, q.first, q.second))
 }
 
-fn show(forward: bool, a: Told) {
+fn show(rt: &impl Print, forward: bool, a: Told) {
     if a.refusal != 0 {
-        refusal(a.refusal);
+        refusal(rt, a.refusal);
         return;
     }
     if forward {
-        word(words::EASTING);
-        number(a.first);
-        word(words::NORTHING);
-        number(a.second);
+        word(rt, words::EASTING);
+        number(rt, a.first);
+        word(rt, words::NORTHING);
+        number(rt, a.second);
     } else {
-        word(words::POSITION);
-        number(a.first);
-        number(a.second);
+        word(rt, words::POSITION);
+        number(rt, a.first);
+        number(rt, a.second);
     }
 }
 
-fn asked(k: usize, q: Question) {
-    name(k);
+fn asked(rt: &impl Print, k: usize, q: Question) {
+    name(rt, k);
     if q.forward {
-        word(words::FORWARD);
+        word(rt, words::FORWARD);
     } else {
-        word(words::INVERSE);
+        word(rt, words::INVERSE);
     }
-    number(q.first);
-    number(q.second);
-    word(words::ANSWER);
+    number(rt, q.first);
+    number(rt, q.second);
+    word(rt, words::ANSWER);
 }
 
 // The row up to what was expected.
-fn run(k: usize, q: Question, right: Told) -> Told
+fn run(rt: &impl Print, k: usize, q: Question, right: Told) -> Told
     ensures { result ≡ told_by q }
 {
-    asked(k, q);
+    asked(rt, k, q);
     let found = answer(q);
-    show(q.forward, found);
-    word(words::EXPECTED);
-    show(q.forward, right);
+    show(rt, q.forward, found);
+    word(rt, words::EXPECTED);
+    show(rt, q.forward, right);
     found
 }
 
-fn show_gaps(off: Gaps, unit: usize, most: u64) {
-    word(words::OFF_BY);
-    size(off.first);
-    word(words::AND);
-    size(off.second);
-    word(unit);
-    word(words::AT_MOST);
-    size(most);
+fn show_gaps(rt: &impl Print, off: Gaps, unit: usize, most: u64) {
+    word(rt, words::OFF_BY);
+    size(rt, off.first);
+    word(rt, words::AND);
+    size(rt, off.second);
+    word(rt, unit);
+    word(rt, words::AT_MOST);
+    size(rt, most);
 }
 
 // Either value may be off by at most so many cm forward, and so many mas inverse.
-pub(crate) fn row(k: usize, q: Question, right: Told, most: u64) -> bool
+pub(crate) fn row(rt: &impl Print, k: usize, q: Question, right: Told, most: u64) -> bool
     ensures { result ≡ is_near most (told_by q) right }
 {
-    let found = run(k, q, right);
+    let found = run(rt, k, q, right);
     let off = gaps_of(found, right);
     if q.forward {
-        show_gaps(off, words::CM, most);
+        show_gaps(rt, off, words::CM, most);
     } else {
-        show_gaps(off, words::MAS, most);
+        show_gaps(rt, off, words::MAS, most);
     }
-    verdict(is_right(found, right, off, most))
+    verdict(rt, is_right(found, right, off, most))
 }
 
 // Latitude and longitude may be off by at most so many cm on the ground; `cosine` is that of the latitude expected.
-pub(crate) fn ground_row(k: usize, q: Question, right: Told, cosine: i64, most: u64) -> bool
+pub(crate) fn ground_row(
+    rt: &impl Print,
+    k: usize,
+    q: Question,
+    right: Told,
+    cosine: i64,
+    most: u64,
+) -> bool
     ensures { result ≡ is_near_on_ground q.set.a cosine most (told_by q) right }
 {
-    let found = run(k, q, right);
+    let found = run(rt, k, q, right);
     let p = q.set;
     let off = on_ground(p.a, cosine, gaps_of(found, right));
-    show_gaps(off, words::CM_ON_THE_GROUND, most);
-    verdict(is_right(found, right, off, most))
+    show_gaps(rt, off, words::CM_ON_THE_GROUND, most);
+    verdict(rt, is_right(found, right, off, most))
 }
 
-pub(crate) fn refused_row(k: usize, q: Question, number: u8) -> bool
+pub(crate) fn refused_row(rt: &impl Print, k: usize, q: Question, number: u8) -> bool
     ensures { result ≡ is_near 0 (told_by q) (refused number) }
 {
     let right = refused(number);
-    let found = run(k, q, right);
-    verdict(is_right(found, right, gaps_of(found, right), 0))
+    let found = run(rt, k, q, right);
+    verdict(rt, is_right(found, right, gaps_of(found, right), 0))
 }

@@ -32,35 +32,35 @@ fn steps(t: &Table, e2: i64, beta: Authalic) -> Geodetic
     to_geodetic(t, series, beta)
 }
 
-fn asked(e2: i64, beta: Authalic) {
-    word(words::REVERSE_SERIES);
-    number(e2);
-    word(words::BETA);
-    number(beta.0);
+fn asked(rt: &impl Print, e2: i64, beta: Authalic) {
+    word(rt, words::REVERSE_SERIES);
+    number(rt, e2);
+    word(rt, words::BETA);
+    number(rt, beta.0);
 }
 
-fn show(found: i64, right: i64, off: u64) {
-    word(words::LATITUDE);
-    number(found);
-    word(words::SERIES);
-    number(right);
-    word(words::OFF_BY);
-    size(off);
-    word(words::MAS);
-    word(words::AT_MOST);
-    size(MOST);
+fn show(rt: &impl Print, found: i64, right: i64, off: u64) {
+    word(rt, words::LATITUDE);
+    number(rt, found);
+    word(rt, words::SERIES);
+    number(rt, right);
+    word(rt, words::OFF_BY);
+    size(rt, off);
+    word(rt, words::MAS);
+    word(rt, words::AT_MOST);
+    size(rt, MOST);
 }
 
-fn row(t: &Table, e2: i64, beta: Authalic) -> bool
+fn row(rt: &impl Print, t: &Table, e2: i64, beta: Authalic) -> bool
     requires { IsTable t.now × (accepted_e2 e2 ≡ true) × (nat_abs beta.0 ≤ right_angle) }
     ensures { result ≡ leb (series_gap e2 beta) most_mas }
 {
-    asked(e2, beta);
+    asked(rt, e2, beta);
     let found = steps(t, e2, beta).0;
     let right = latitude(t, e2, beta).0;
     let off = gap(found, right);
-    show(found, right, off);
-    verdict(off <= MOST)
+    show(rt, found, right, off);
+    verdict(rt, off <= MOST)
 }
 
 // In mas, and how many of them lie from pole to pole.
@@ -69,32 +69,32 @@ const TEN_DEGREES: i64 = 36_000_000;
 const TENS: u64 = 18;
 
 // Every 10°, from pole to pole.
-fn tens(t: &Table, e2: i64)
+fn tens(rt: &impl Print, t: &Table, e2: i64)
     requires { IsTable t.now × (accepted_e2 e2 ≡ true) }
 {
     let mut i: u64 = 0;
     while i <= TENS {
-        row(t, e2, Authalic(TEN_DEGREES * i as i64 - LATITUDE_MOST));
+        row(rt, t, e2, Authalic(TEN_DEGREES * i as i64 - LATITUDE_MOST));
         i += 1;
     }
 }
 
 // β of document 001's example, and latitudes where the two are farthest apart for one of the ellipsoids.
-fn ellipsoid(t: &Table, e2: i64)
+fn ellipsoid(rt: &impl Print, t: &Table, e2: i64)
     requires { IsTable t.now × (accepted_e2 e2 ≡ true) }
 {
-    tens(t, e2);
-    row(t, e2, Authalic(179_544_997));
-    row(t, e2, Authalic(-280_532_365));
-    row(t, e2, Authalic(241_201_930));
-    row(t, e2, Authalic(-282_060_453));
-    row(t, e2, Authalic(207_474_425));
+    tens(rt, t, e2);
+    row(rt, t, e2, Authalic(179_544_997));
+    row(rt, t, e2, Authalic(-280_532_365));
+    row(rt, t, e2, Authalic(241_201_930));
+    row(rt, t, e2, Authalic(-282_060_453));
+    row(rt, t, e2, Authalic(207_474_425));
 }
 
-pub(crate) fn rows(t: &Table)
+pub(crate) fn rows(rt: &impl Print, t: &Table)
     requires { IsTable t.now }
 {
-    ellipsoid(t, 6_694_380);
-    ellipsoid(t, 10_000_000);
-    ellipsoid(t, 0);
+    ellipsoid(rt, t, 6_694_380);
+    ellipsoid(rt, t, 10_000_000);
+    ellipsoid(rt, t, 0);
 }

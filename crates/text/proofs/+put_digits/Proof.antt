@@ -52,48 +52,29 @@ module _ (t : ℕ) where
   abbrev claims : put-digits-lts.Claims
   claims = (below, put-digits.Post)
 
-  -- the three places where a fact is due
-  abbrev One : Type 0
-  One = put-digits-lts.Then-n-lt10 claims given put-digits.Post
-
-  abbrev More : Type 0
-  More = put-digits-lts.Else-n-lt10 claims given put-digits.Post
-
-  abbrev Last : Type 0
-  Last = put-digits-lts.After-slice_known-2-1 claims given put-digits.Post
-
+  -- No name of a place where the code tests n stands here, since it holds the code's literal: omega finds what the test told.
   cast-out : put-digits-lts.Need-overflow_cast-out claims given put-digits.Post
   cast-out c = omega arith
 
   add-out : put-digits-lts.Need-overflow_add-out claims given put-digits.Post
   add-out c = omega arith
 
-  fits_one : (c : One) → c.before.before.args.at < length c.before.before.args.out.now
-  fits_one c =
-      let start = c.before.before in
-      one-fits start.args.out.now start.args.at start.args.n start.requires.1 c.if-n-lt10.true
-
   slice-write-out : put-digits-lts.Need-bounds-out-at claims given put-digits.Post
-  slice-write-out c = fits_one c
+  slice-write-out c =
+      let start = c.before.before in
+      one-fits start.args.out.now start.args.at start.args.n start.requires.1 (omega arith)
 
   add-result : put-digits-lts.Need-overflow_add-result claims given put-digits.Post
-  add-result c = omega (arith, fits_one c)
-
-  same_length : put-digits-lts.Need-shape_of-out-then-n-lt10 claims given put-digits.Post
-  same_length c = simp length-set
-
-  returns : put-digits-lts.Need-returns-then-n-lt10 claims given put-digits.Post
-  returns c = let start = c.before.before in one-put _ _ start.args.n start.requires.1 c.if-n-lt10.true
-
-  more : (c : More) → length (decimal c.before.before.args.n) ≡ length (decimal (c.before.before.args.n / 10)) + 1
-  more c =
+  add-result c =
       let start = c.before.before in
-      digits_more start.args.out.now start.args.at start.args.n start.requires.1 c.if-n-lt10.false start.ranges.n.fits
+      omega (arith, one-fits start.args.out.now start.args.at start.args.n start.requires.1 (omega arith))
+
 
   put-digits-requires : put-digits-lts.Need-put_digits-last-requires claims given put-digits.Post
   put-digits-requires c κs =
       let start = c.before.before.before in
-      (subst (λ (m : ℕ). start.args.n / 10 < m) start.requires.0 (omega arith), omega (arith, more c.before))
+      let more = digits_more start.args.out.now start.args.at start.args.n start.requires.1 (omega arith) start.ranges.n.fits in
+      (subst (λ (m : ℕ). start.args.n / 10 < m) start.requires.0 (omega arith), omega (arith, more))
 
   cast-out-2 : put-digits-lts.Need-overflow_cast-out-2 claims given put-digits.Post
   cast-out-2 c = omega arith
@@ -101,12 +82,13 @@ module _ (t : ℕ) where
   add-out-2 : put-digits-lts.Need-overflow_add-out-2 claims given put-digits.Post
   add-out-2 c = omega arith
 
-  fits_last : (c : Last) → c.before.before.put_digits-last.result < length c.before.before.before.before.before.before.args.out.now
+  fits_last : (c : put-digits-lts.After-slice_known-2-1 claims given put-digits.Post) →
+      c.before.before.put_digits-last.result < length c.before.before.before.before.before.before.args.out.now
   fits_last c =
       let call = c.before.before in
       let above = call.before.before in
       let start = above.before.before in
-      last_fits _ _ start.args.n start.requires.1 above.if-n-lt10.false start.ranges.n.fits call.put_digits-last.ensures
+      last_fits _ _ start.args.n start.requires.1 (omega arith) start.ranges.n.fits call.put_digits-last.ensures
 
   slice-write-out-2 : put-digits-lts.Need-bounds-out-last claims given put-digits.Post
   slice-write-out-2 c = omega (arith, fits_last c, c.before.before.put_digits-last.auto.out)
@@ -122,7 +104,7 @@ module _ (t : ℕ) where
       let call = c.before.before in
       let above = call.before.before in
       let start = above.before.before in
-      last-put _ _ start.args.n start.requires.1 above.if-n-lt10.false start.ranges.n.fits call.put_digits-last.ensures
+      last-put _ _ start.args.n start.requires.1 (omega arith) start.ranges.n.fits call.put_digits-last.ensures
 
 pub +put_digits_spec : {M : Type 1} → statement M
 +put_digits_spec = close μ-put-digits λ t. put-digits-lts.spec (claims t)
@@ -132,8 +114,8 @@ pub +put_digits_spec : {M : Type 1} → statement M
     (add-out t)
     (slice-write-out t)
     (add-result t)
-    (same_length t)
-    (returns t)
+    (λ c. simp length-set)
+    (λ c. let start = c.before.before in one-put _ _ start.args.n start.requires.1 (omega arith))
     (put-digits-requires t)
     (cast-out-2 t)
     (add-out-2 t)

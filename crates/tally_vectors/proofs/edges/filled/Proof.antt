@@ -3,36 +3,36 @@ use Rattle.std.proofs.Common.{◌-◌, ◌≤◌, rules}
 use Rattle.tally_vectors.proofs.edges.filled.Statement.{statement}
 use Rattle.tally_vectors.proofs.edges.filled.Tie as tie
 
-abbrev invariant-loop : tie.invariant-loop
+abbrev invariant-loop : tie.invariant-loop-k
 invariant-loop loop north count tally₀ k₀ tally k = k ≤ count
 
-abbrev decreases-loop : tie.decreases-loop
+abbrev decreases-loop : tie.decreases-loop-k
 decreases-loop loop north count tally₀ k₀ tally k = count - k
 
-loop-holds : tie.Need-loop-init invariant-loop decreases-loop
+loop-holds : tie.Need-loop-k-init invariant-loop decreases-loop
 loop-holds c = search rules
 
-cast-cell-at : tie.Need-overflow-cast-cell-at invariant-loop decreases-loop
+cast-cell-at : tie.Need-overflow_cast-k invariant-loop decreases-loop
 cast-cell-at c = search rules
 
-cell-at-requires : tie.Need-cell-at-requires invariant-loop decreases-loop
+cell-at-requires : tie.Need-cell_at-requires invariant-loop decreases-loop
 cell-at-requires c κs = search rules
 
-add-requires : tie.Need-add-requires invariant-loop decreases-loop
+add-requires : tie.Need-add-next-requires invariant-loop decreases-loop
 add-requires c κs = search rules
 
-add-k : tie.Need-overflow-add-k invariant-loop decreases-loop
+add-k : tie.Need-overflow_add-k invariant-loop decreases-loop
 add-k c = search rules
 
-loop-less : tie.Need-loop-smaller invariant-loop decreases-loop
+loop-less : tie.Need-loop-k-smaller invariant-loop decreases-loop
 loop-less c = search rules
 
-loop-again : tie.Need-loop-preserved invariant-loop decreases-loop
+loop-again : tie.Need-loop-k-preserved invariant-loop decreases-loop
 loop-again c = search rules
 
 returns : tie.Need-returns invariant-loop decreases-loop
 returns c = search rules
 
-pub filled-spec : {M : Type 1} → statement M
-filled-spec =
+pub filled_spec : {M : Type 1} → statement M
+filled_spec =
     tie.close (tie.spec invariant-loop decreases-loop loop-holds cast-cell-at cell-at-requires add-requires add-k loop-less loop-again returns)

@@ -71,12 +71,12 @@ returns c =
     let told = c.there_and_back-back.ensures.equation in
     let globe = on_globe a.p a.lat a.lon c.ranges.lon told back.latitude back.longitude back.is in
     let north : c.gap.result ≡ latitude_gap a.lat back.latitude =
-        c.gap.ensures ∙ ap nat_abs (read_difference a.lat.0 back.latitude.0 c.requires.1 (lit< tt) globe.0 (lit< tt)) in
+    c.gap.ensures ∙ ap nat_abs (read_difference a.lat.0 back.latitude.0 c.requires.1 (lit< tt) globe.0 (lit< tt)) in
     let east : c.longitude_gap.result ≡ gap_thousandths a.p a.lat a.lon back.longitude =
-        c.longitude_gap.ensures
-        ∙ ap (λ (d : ℤ). thousandths_of (turn_gap d * nat_abs (cosine (beta a.k.series a.lat).0)))
-        (read_difference a.lon back.longitude c.requires.2 (lit< tt) globe.1 (lit< tt))
-        ∙ ap thousandths_of (weighted a.p a.k a.lat a.lon back.longitude c.requires.0.constants) in
+    c.longitude_gap.ensures
+    ∙ ap (λ (d : ℤ). thousandths_of (turn_gap d * nat_abs (cosine (beta a.k.series a.lat).0)))
+    (read_difference a.lon back.longitude c.requires.2 (lit< tt) globe.1 (lit< tt))
+    ∙ ap thousandths_of (weighted a.p a.k a.lat a.lon back.longitude c.requires.0.constants) in
     c.add.ensures
     ∙ ap₂ (with_trip a.seen) north east
     ∙ ap (λ (r : GeodeticAnswer). compared a.p a.lat a.lon r a.seen)
