@@ -25,7 +25,7 @@ use Rattle.azimuthal_inverse.specs.declared.GeodeticAnswer.TheVariants.{Position
 use Rattle.azimuthal_inverse.specs.Steps.{at_origin}
 use Rattle.azimuthal_inverse.specs.Answer.{inverse_of}
 use Rattle.azimuthal_inverse.proofs.AnswerLaws.{from_origin, inverse_on_plane}
-use Rattle.bytes.specs.Bytes.{index_after, index_of}
+use Rattle.text.specs.Cutting.{index_after, index_of}
 use Rattle.text.specs.Numbers.{unsigned_of, number_of, decimal, number_text}
 use Rattle.requests.specs.Requests.{request_of}
 use Rattle.lines.specs.Lines.{plane_reply, position_reply, reply_of, answer_text}

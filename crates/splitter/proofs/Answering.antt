@@ -6,10 +6,9 @@ use mathlib.Core.List.{List, [], ◌∷◌, ◌++◌}
 use Prim.Native.Nat.{ℕ, suc, ◌+◌, ◌*◌, ◌-◌, ◌≤◌, ◌<◌}
 use native.Mathlib.Omega.{arith}
 use lib.ListN.{length, take, drop, length-append, length-drop}
-use lib.Seq.{drop-drop}
-use Rattle.bytes.specs.Bytes.{index_of, slice}
+use lib.Seq.{slice, drop-drop}
 use Rattle.text.specs.Pasting.{Put}
-use Rattle.text.specs.Cutting.{up_to, after}
+use Rattle.text.specs.Cutting.{index_of, up_to, after}
 use Rattle.text.proofs.Pasting.{put_as, put_both, put_none, put_length}
 use Rattle.text.proofs.Cutting.{index_within, found}
 use Rattle.text.specs.Ascii.{newline}
@@ -48,7 +47,7 @@ pub record Line (piece : List ℕ) (start end : ℕ) : Type 0 where
   pub inside : start ≤ length piece
   pub to_newline : end ≡ start + index_of newline (drop start piece)
 
--- as the kit's `find` finds its end
+-- as `find` finds its end
 pub line_found :
     (piece : List ℕ) (start : ℕ) {end : ℕ} →
     start ≤ length piece →

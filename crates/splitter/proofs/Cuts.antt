@@ -6,8 +6,7 @@ use Prim.Native.Nat.{ℕ, ◌≤◌}
 use native.Mathlib.Omega.{arith}
 use lib.ListN.{length, length-take}
 use lib.Seq.{take-take}
-use Rattle.bytes.specs.Bytes.{index_of}
-use Rattle.text.specs.Cutting.{up_to}
+use Rattle.text.specs.Cutting.{index_of, up_to}
 use Rattle.requests.specs.Requests.{most_kept}
 use Rattle.text.specs.Ascii.{newline}
 use Rattle.lines.specs.Lines.{answer_line}

@@ -7,8 +7,7 @@ use Prim.Native.Nat.{ℕ, suc, ◌≤◌, ◌<◌}
 use native.Mathlib.Nat.{not-suc-le-zero, le_of_suc-le-suc}
 use lib.Dec.{eqb}
 use lib.ListN.{length, take, drop}
-use Rattle.bytes.specs.Bytes.{index_after, index_of}
-use Rattle.text.specs.Cutting.{up_to, after}
+use Rattle.text.specs.Cutting.{index_after, index_of, up_to, after}
 use Rattle.text.specs.Ascii.{newline}
 use Rattle.splitter.specs.Splitting.{ended_lines, part_left}
 

@@ -9,12 +9,11 @@ ghost use Rattle.constants.specs.InnerPrepared.{Prepared};
 ghost use Rattle.lines.specs.Lines.{answer_line, answer_most};
 ghost use Rattle.splitter.specs.Splitting.{ended_lines, part_left, last_line, answers_of, carried_of, part_of, IsCarried};
 
-use bytes::scan::find;
 use constants::Constants;
 use lines::{ANSWER_MOST, answer_at};
 use requests::KEPT_MOST;
 use sine_table::Table;
-use text::put_bytes;
+use text::{find, put_bytes};
 
 // The part of a line that has come so far: those of its bytes that decide its answer, and zeros after
 // them.

@@ -8,5 +8,5 @@ returns : tie.Need-returns
 unfolding carried_of
 returns c = refl
 
-pub nothing-carried-spec : {M : Type 1} → statement M
-nothing-carried-spec = tie.close (tie.spec returns)
+pub nothing_carried_spec : {M : Type 1} → statement M
+nothing_carried_spec = tie.close (tie.spec returns)

@@ -69,7 +69,6 @@ module _ (t : ℕ) where
       let start = c.before.before in
       omega (arith, one-fits start.args.out.now start.args.at start.args.n start.requires.1 (omega arith))
 
-
   put-digits-requires : put-digits-lts.Need-put_digits-last-requires claims given put-digits.Post
   put-digits-requires c κs =
       let start = c.before.before.before in
