@@ -1,6 +1,6 @@
-# For programs in C and C++: `make install PREFIX=/usr/local` installs the archive, the header and a
-# file for pkg-config. `rt staticlib laea_c` builds the archive first; nothing here does, for that is a
-# proof, and an archive older than its sources is not installed.
+# For programs in C and C++: `make archive` proves and builds the archive (it needs the Rattle kit), and
+# `make install PREFIX=/usr/local` installs it with the header and a file for pkg-config. No other target
+# builds the archive, for that is a proof, and one older than its sources is not installed.
 PREFIX ?= /usr/local
 DESTDIR ?=
 ROOT := $(patsubst %/,%,$(dir $(abspath $(lastword $(MAKEFILE_LIST)))))
@@ -9,10 +9,13 @@ VERSION := $(shell awk '$$2 == "LAEA_VERSION" { print int($$3 / 10000) "." int($
 INTO := $(DESTDIR)$(abspath $(PREFIX))
 INSTALLED := $(INTO)/lib/liblaea_c.a $(INTO)/include/laea.h $(INTO)/lib/pkgconfig/laea.pc
 
-.PHONY: all check install uninstall
+.PHONY: all archive check install uninstall
 
 all:
 	@folder=$$('$(ROOT)/scripts/archive') && echo "$$folder/liblaea_c.a is up to date; 'make install' installs it"
+
+archive:
+	cd '$(ROOT)/crates/laea_c' && rt lib
 
 check:
 	@'$(ROOT)/scripts/install-test'

@@ -17,7 +17,7 @@ def read(path):
 
 def order():
     """the crates as crates.txt has them, the lowest first"""
-    return re.findall(r"^(\w+):", read(root / "crates.txt"), re.M)
+    return re.findall(r"^(\w+)[^:\n]*:", read(root / "crates.txt"), re.M)
 
 
 class Def:
@@ -81,8 +81,8 @@ def variables(name, text):
 
 
 def cited(text, known):
-    """which of the known names a text has, in order: where `_∷_` is known, ∷ is that"""
-    short = {part: name for name in known if "_" in name for part in name.split("_") if part}
+    """which of the known names a text has, in order: where `◌∷◌` is known, ∷ is that"""
+    short = {part: name for name in known if "◌" in name for part in name.split("◌") if part}
     found = (word if word in known else short.get(word) for word in words(text))
     return [name for name in dict.fromkeys(found) if name]
 
@@ -145,12 +145,18 @@ def spec_files():
     return out
 
 
+def ours(module):
+    """the crate and the path of a module of this repository's specs, or None where the module is the kit's"""
+    found = re.match(r"Rattle\.(\w+)\.specs\.(.*)$", module)
+    return (found[1], found[2]) if found and (crates / found[1]).exists() else None
+
+
 def target(module, name):
     """what an imported name is: a definition of specs/, a type of src/, or the kit's, as (module, name)"""
-    ours = re.match(r"Rattle·(\w+?)(?:·specs)?\.specs\.(.*)$", module)
-    if not ours or not (crates / ours[1]).exists():
+    if not ours(module):
         return module, name
-    crate, path = ours[1], ours[2].removesuffix(".the-variants").split(".")
+    crate, path = ours(module)
+    path = path.removesuffix(".TheVariants").split(".")
     if path[0] == "declared":
         found = type_named(crate, path[-2] if len(path) > 2 else "", path[-1])
     else:
@@ -181,7 +187,7 @@ def is_case(file, uses, name):
     """whether a name is that of a case: a pattern may hold it, and it is no variable"""
     if name in file.known:
         return file.known[name].name != name
-    return name in uses and (uses[name][0].endswith("the-variants") or not uses[name][0].startswith("Rattle"))
+    return name in uses and (uses[name][0].endswith(".TheVariants") or not ours(uses[name][0]))
 
 
 def reached(starts):
@@ -230,13 +236,23 @@ def constants(crate):
     return items(crate, "const", Def)
 
 
+def code_imports(text):
+    """for each name that a file of code imports, its path; those that it passes on by `pub use` are told by True"""
+    found = {}
+    for public, path, names in re.findall(r"^(pub )?use ([\w:]+)::(\w+|\{[^}]*\});", text, re.M):
+        for name in re.findall(r"\w+", names):
+            found[name] = (path, bool(public))
+    return found
+
+
 def type_named(crate, module, name):
     """the type of a crate's code by its name and its module, where that is given; also one that a `pub use` passes on"""
     for t in types(crate):
         if t.name == name and module in ("", Path(t.file).stem):
             return t
     for file in sources(crate):
-        for path in re.findall(rf"^pub use ([\w:]+)::{name};", read(crates / crate / file), re.M):
+        path, public = code_imports(read(crates / crate / file)).get(name, ("", False))
+        if public:
             there, *inner = path.split("::")
             return type_named(crate if there == "crate" else there, "".join(inner[-1:]), name)
 
@@ -244,9 +260,9 @@ def type_named(crate, module, name):
 def code_types(d):
     """the types of the crates that a type or a function's signature names"""
     found = []
-    uses = {name: path for path, name in re.findall(r"^(?:pub )?use ([\w:]+)::(\w+);", read(crates / d.crate / d.file), re.M)}
+    uses = code_imports(read(crates / d.crate / d.file))
     for name in dict.fromkeys(re.findall(r"\b[A-Z]\w*", re.sub(r"//.*", "", getattr(d, "signature", d.text)))):
-        crate, *inner = uses.get(name, "crate").split("::")
+        crate, *inner = uses.get(name, ("crate", False))[0].split("::")
         crate = d.crate if crate == "crate" else crate
         if (crates / crate).exists():
             found.append(type_named(crate, "".join(inner[-1:]), name))
@@ -290,7 +306,7 @@ def functions(crate):
 
 
 def c_functions(crate):
-    return [f for f in functions(crate) if "#[no_mangle]" in f.text]
+    return [f for f in functions(crate) if "#[unsafe(no_mangle)]" in f.text]
 
 
 # ---- the customers' entries

@@ -1,7 +1,7 @@
 //! Finds the archive `liblaea_c.a` and links it. It never builds the archive, for that is a proof.
 //!
 //! The archive is looked for in the folder that `LAEA_ARCHIVE_DIR` names, else in
-//! `target/staticlib` of the repository. One that is missing, or older than the sources that it is
+//! `crates/laea_c/out` of the repository. One that is missing, or older than the sources that it is
 //! made of, stops the build with what to do.
 
 use std::env;
@@ -22,13 +22,11 @@ fn main() {
     let root = root.canonicalize().unwrap_or(root);
     let folder = match env::var_os(VARIABLE) {
         Some(named) => PathBuf::from(named),
-        None => root.join("target/staticlib"),
+        None => root.join("crates/laea_c/out"),
     };
     println!("cargo:rerun-if-changed={}", folder.join(ARCHIVE).display());
-    for source in ["crates", "crates.txt"].map(|name| root.join(name)) {
-        if source.exists() {
-            println!("cargo:rerun-if-changed={}", source.display());
-        }
+    for source in sources(&root).unwrap_or_default() {
+        println!("cargo:rerun-if-changed={}", source.display());
     }
     let platform = ["ARCH", "OS", "POINTER_WIDTH"].map(target);
     let fault = wrong_platform(&platform).or_else(|| bad_archive(&root, &folder.join(ARCHIVE)));
@@ -62,7 +60,7 @@ pub fn bad_archive(root: &Path, archive: &Path) -> Option<String> {
     let fault = fault(root, archive)?;
     Some(format!(
         "{fault}\nWhat to do, one of:\n  \
-         - run `rt staticlib laea_c` in the repository's root, which proves and builds the archive\n    \
+         - run `make archive` in the repository's root, which proves and builds the archive\n    \
            (it needs the Rattle kit), and build again;\n  \
          - take an archive that was built from these sources on another x86-64 Linux machine, and\n    \
            set {VARIABLE} to its folder."
@@ -90,37 +88,36 @@ fn fault(root: &Path, archive: &Path) -> Option<String> {
     }
 }
 
-/// The source of the archive that was changed last, with the time; nothing where the crate stands
-/// outside the repository, so that there is nothing to compare with.
-fn newest_source(root: &Path) -> io::Result<Option<(SystemTime, PathBuf)>> {
+/// What the archive is made of: the list of crates, and each crate's code and the definitions that its
+/// contracts cite; nothing where the crate stands outside the repository.
+fn sources(root: &Path) -> io::Result<Vec<PathBuf>> {
     let list = root.join("crates.txt");
     if !list.is_file() {
-        return Ok(None);
+        return Ok(Vec::new());
     }
-    let mut newest = (fs::metadata(&list)?.modified()?, list);
-    let mut folders = vec![root.join("crates")];
-    while let Some(folder) = folders.pop() {
-        for entry in fs::read_dir(folder)? {
-            let entry = entry?;
-            let path = entry.path();
-            if entry.file_type()?.is_dir() {
-                folders.push(path);
-            } else if is_source(path.strip_prefix(root).unwrap_or(&path)) {
-                let changed = entry.metadata()?.modified()?;
-                if changed > newest.0 {
-                    newest = (changed, path);
-                }
-            }
-        }
+    let mut found = vec![list];
+    for entry in fs::read_dir(root.join("crates"))? {
+        let package = entry?.path();
+        let folders = ["src", "specs"].map(|name| package.join(name));
+        found.extend(folders.into_iter().filter(|folder| folder.is_dir()));
     }
-    Ok(Some(newest))
+    Ok(found)
 }
 
-/// Code (`.rt`), and definitions that its contracts cite (`.antt` under a folder `specs`).
-fn is_source(path: &Path) -> bool {
-    match path.extension().and_then(|extension| extension.to_str()) {
-        Some("rt") => true,
-        Some("antt") => path.iter().any(|part| part == "specs"),
-        _ => false,
+/// The source of the archive that was changed last, with the time; nothing where there are no sources
+/// to compare with.
+fn newest_source(root: &Path) -> io::Result<Option<(SystemTime, PathBuf)>> {
+    let mut newest = None;
+    let mut todo = sources(root)?;
+    while let Some(path) = todo.pop() {
+        let found = fs::metadata(&path)?;
+        if found.is_dir() {
+            for entry in fs::read_dir(path)? {
+                todo.push(entry?.path());
+            }
+        } else {
+            newest = newest.max(Some((found.modified()?, path)));
+        }
     }
+    Ok(newest)
 }

@@ -22,7 +22,7 @@ fn repository(name: &str) -> PathBuf {
         "crates/one/specs/Words.antt",
         "crates/one/proofs/Laws.antt",
         "crates/one/must-fail/wrong.edit",
-        "target/staticlib/liblaea_c.a",
+        "crates/laea_c/out/liblaea_c.a",
     ] {
         change(&root.join(file), 1_000);
     }
@@ -38,11 +38,11 @@ fn change(path: &Path, second: u64) {
 }
 
 fn fault(root: &Path) -> Option<String> {
-    build::bad_archive(root, &root.join("target/staticlib/liblaea_c.a"))
+    build::bad_archive(root, &root.join("crates/laea_c/out/liblaea_c.a"))
 }
 
 fn says_what_to_do(fault: &str) -> bool {
-    fault.contains("`rt staticlib laea_c` in the repository's root")
+    fault.contains("`make archive` in the repository's root")
         && fault.contains("LAEA_ARCHIVE_DIR")
 }
 
@@ -67,14 +67,14 @@ fn platforms() {
 #[test]
 fn missing_archive() {
     let root = repository("missing");
-    fs::remove_file(root.join("target/staticlib/liblaea_c.a")).expect("it was there");
+    fs::remove_file(root.join("crates/laea_c/out/liblaea_c.a")).expect("it was there");
     let said = fault(&root).expect("no archive");
     assert!(said.starts_with("There is no archive"), "{said}");
     assert!(says_what_to_do(&said), "{said}");
 }
 
-/// An archive of the same second or later is linked, an older one is not; proofs and edits are no
-/// part of it.
+/// An archive of the same second or later is linked, an older one is not; proofs, edits and
+/// what rt makes are no part of it.
 #[test]
 fn older_archive() {
     let root = repository("older");
@@ -83,6 +83,7 @@ fn older_archive() {
         "README.md",
         "crates/one/proofs/Laws.antt",
         "crates/one/must-fail/wrong.edit",
+        "crates/one/out/src/lib.rt",
     ] {
         change(&root.join(other), 3_000);
         assert_eq!(fault(&root), None, "{other}");
@@ -109,9 +110,9 @@ fn older_archive() {
 #[test]
 fn relative_folder() {
     let root = repository("relative");
-    let said = build::bad_archive(&root, Path::new("staticlib/liblaea_c.a")).expect("refused");
+    let said = build::bad_archive(&root, Path::new("out/liblaea_c.a")).expect("refused");
     assert!(
-        said.starts_with("LAEA_ARCHIVE_DIR leads to staticlib/liblaea_c.a"),
+        said.starts_with("LAEA_ARCHIVE_DIR leads to out/liblaea_c.a"),
         "{said}"
     );
     assert!(says_what_to_do(&said), "{said}");
