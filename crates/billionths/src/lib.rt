@@ -41,7 +41,7 @@ pub fn quotient(x: i64, y: i64) -> i64
     near(x * UNIT, y as u64)
 }
 
-// root(typeof.x.U), for x from 0 to 2 U.
+// root(x·U), for x from 0 to 2 U.
 pub fn unit_root(x: i64) -> i64
     requires { (pos 0 ≤ℤ x) × (nat_abs x ≤ 2_000_000_000) }
     ensures { result ≡ pos (rootOf (nat_abs (x *ℤ U))) }

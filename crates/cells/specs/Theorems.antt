@@ -1,4 +1,4 @@
--- What holds of cells, over the definitions that the contracts cite. What `OneCell` states is proved as `one_Cell` in proofs/, and so
+-- What holds of cells, over the definitions that the contracts cite. What `OneCell` states is proved as `one_cell` in proofs/, and so
 -- the others. What is said along an axis holds along both: one rule gives both numbers.
 use Rattle.std.specs.Prelude.{ℕ, zero, suc, ◌+◌, ◌*◌, ◌<◌, ◌≡◌, Bool, true, cond, ℤ, pos, neg_ℤ, nat_abs, ◌+ℤ◌, ◌-ℤ◌, ◌*ℤ◌, ◌≤ℤ◌, ◌<ℤ◌}
 use Rattle.units.specs.Units.{plane_limit}

@@ -1,4 +1,4 @@
--- What holds of codes that are written and read, over the definitions that the contracts cite. What `WrittenRead` states is proved as `Written-Read`
+-- What holds of codes that are written and read, over the definitions that the contracts cite. What `WrittenRead` states is proved as `written_read`
 -- in proofs/, and so the others. Each is stated once for all sides.
 use Rattle.std.specs.Prelude.{ℕ, ◌≤◌, ◌≡◌, ◌↔◌, List, ℤ, pos, length, take}
 use Prim.Native.String.{String}

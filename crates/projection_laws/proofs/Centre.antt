@@ -1,5 +1,5 @@
 -- The centre, the pole of a polar set and the point opposite to the centre.
--- Where u and w are 0 and the position is near enough, it goes to the false origin. At the centre u is 0 as sine(0) is, w is C0-as-S0 − S0-as-C0, and G is 2U but
+-- Where u and w are 0 and the position is near enough, it goes to the false origin. At the centre u is 0 as sine(0) is, w is C0·S0 − S0·C0, and G is 2U but
 -- for what sine² + cosine² lacks. At a pole C0 is 0, so the longitude falls out. At the opposite point b and v have the other sign, so G is as much below U
 -- as it is above it at the centre. The way back from the false origin is an answer of its own.
 -- Assumes nothing.

@@ -3,7 +3,7 @@
 -- numbers whose sizes the hypotheses bound by numerals. From these a bound follows for each result, and one that is below 2^63 is read back as
 -- it was; that every result fits is then one computed test.
 -- Use: `fits (search code depth 40 fits 20000) tt` at an operation, and `read (search code depth 40 fits 20000) tt` for what is returned. Where
--- many operations nest, list the bounds for `search`: `search (code, c.pre.0, c.pre.1) depth 40 fits 20000`. Assumes nothing.
+-- many operations nest, list the bounds for `search`: `search (code, c.requires.0, c.requires.1) depth 40 fits 20000`. Assumes nothing.
 use mathlib.Core.Path.{◌≡◌, refl, sym, ap, ap₂, ◌∙◌, subst}
 use mathlib.Core.Bool.{Bool, true, false, ◌&&◌}
 use Prim.Native.Nat.{ℕ, suc, pred, ◌+◌, ◌*◌, ◌/◌, ◌^◌, ◌≤◌, ◌<◌}
@@ -223,7 +223,7 @@ divisor o t h = rw (read o t) (above (value o) h)
     above (pos n) k = omega order
     above (negsuc n) k = let e : ⊥ = omega order in absurd e
 
--- what a signed `if` leaves: `lt_taken (rw as_lt at c.if1.taken) (search code depth 40 fits 20000) (search code depth 40 fits 20000) tt`
+-- what a signed `if` leaves: `lt_taken (rw as_lt at c.if-x-y.true) (search code depth 40 fits 20000) (search code depth 40 fits 20000) tt`
 -- (`==` leaves an equation e of bits: there `sym (read (search code depth 40 fits 20000) tt) ∙ ap (to_z w64) e`.)
 module _ {x y : ℤ} where
   tested : (f : ℤ → ℤ → Bool) (v : Bool) → f x y ≡ v → (a : Code x) (b : Code y) → T (in_range a && in_range b) → f (value a) (value b) ≡ v

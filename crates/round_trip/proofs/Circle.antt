@@ -82,11 +82,11 @@ cosine_near n t h = at_most_below (cosine (t +ℤ pos n)) (cosine t) 300_000 (om
 
 -- ---- sine² + cosine²
 
--- it is at least U² − A-as-U
+-- it is at least U² − A·U
 pub outside_circle : (t : ℤ) → (pos unit *ℤ pos unit) ≤ℤ (sine t *ℤ sine t +ℤ cosine t *ℤ cosine t +ℤ pos (A * unit))
 outside_circle t = at_most_below (sine t *ℤ sine t +ℤ cosine t *ℤ cosine t) (pos unit *ℤ pos unit) (A * unit) (near_circle t)
 
--- it is at most U² + A-as-U
+-- it is at most U² + A·U
 inside_circle : (t : ℤ) → (sine t *ℤ sine t +ℤ cosine t *ℤ cosine t) ≤ℤ (pos unit *ℤ pos unit +ℤ pos (A * unit))
 inside_circle t =
     at_most_below (pos unit *ℤ pos unit) (sine t *ℤ sine t +ℤ cosine t *ℤ cosine t) (A * unit)

@@ -105,7 +105,7 @@ cosine_apart x y =
 
 -- ---- sine² + cosine²
 
--- A: sine² + cosine² differs from U² by at most A-as-U
+-- A: sine² + cosine² differs from U² by at most A·U
 abbrev pub A : ℕ
 A = 3
 
