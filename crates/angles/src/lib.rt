@@ -72,7 +72,7 @@ fn search_near(t: &Table, p: u64, q: u64, estimate: u64, margin: u64) -> u64
 }
 
 // What one test at an angle tells.
-#[derive(Drop)]
+#[derive(Clone, Copy)]
 pub enum Trial {
     // the greatest angle that is under
     Settled(u64),

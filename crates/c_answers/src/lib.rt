@@ -79,7 +79,7 @@ pub fn answer_read(answer: ReadCode, out: &mut [i64; 3]) -> u8
 
 // What a call on a tally gives: the next tally, and the refusal number; 0 is none.
 #[repr(C)]
-#[derive(Drop)]
+#[derive(Clone, Copy)]
 pub struct TallyResult {
     pub tally: Tally,
     pub refusal: u8,

@@ -9,7 +9,7 @@ use units::refusals::{OUT_OF_LIMITS, unless};
 use units::{PLANE_MOST, are_within, is_on_plane};
 
 // The cell's numbers along the two axes, or the refusal number alone.
-#[derive(Drop)]
+#[derive(Clone, Copy)]
 pub enum CellAnswer {
     Cell { east: i64, north: i64 },
     Refused(u8),

@@ -89,14 +89,14 @@ pub fn root(n: u64) -> u64
 }
 
 // Two roots.
-#[derive(Drop)]
+#[derive(Clone, Copy)]
 pub struct RootPair {
     pub first: u64,
     pub second: u64,
 }
 
 // What `root` holds of the digits taken, but for the trial square, which is square + r + bit.
-#[derive(Drop)]
+#[derive(Clone, Copy)]
 struct TakenDigits {
     square: u64,
     r: u64,

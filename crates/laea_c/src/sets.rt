@@ -9,7 +9,7 @@ use parameters::Parameters;
 // The fields of document 01's table, in its order. A change of this layout changes the number in
 // the functions' names.
 #[repr(C)]
-#[derive(Drop)]
+#[derive(Clone, Copy)]
 pub struct Set {
     pub a: i64,
     pub e2: i64,

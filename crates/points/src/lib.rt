@@ -22,14 +22,14 @@ use units::answers::{Told, accepted, refused};
 use units::refusals::{NOT_FINITE, OUT_OF_LIMITS};
 
 // The answers of two pairs.
-#[derive(Drop)]
+#[derive(Clone, Copy)]
 pub struct PlanePairAnswers {
     pub first: PlanePairAnswer,
     pub second: PlanePairAnswer,
 }
 
 // The answers of two pairs.
-#[derive(Drop)]
+#[derive(Clone, Copy)]
 pub struct GeodeticPairAnswers {
     pub first: GeodeticPairAnswer,
     pub second: GeodeticPairAnswer,

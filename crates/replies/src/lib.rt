@@ -9,7 +9,7 @@ use text::{put_bytes, put_labelled, put_pair};
 
 // Easting and northing in cm, latitude and longitude in mas, the refusal number, or that the line is
 // of another form.
-#[derive(Drop)]
+#[derive(Clone, Copy)]
 pub enum Reply {
     Plane(i64, i64),
     Position(i64, i64),

@@ -10,7 +10,7 @@ use text::{Numeral, find, read_number};
 pub const KEPT_MOST: usize = 26;
 
 // What a line asks for, with its latitude and longitude in mas, or its easting and northing in cm.
-#[derive(Drop)]
+#[derive(Clone, Copy)]
 pub enum Request {
     Forward(i64, i64),
     Inverse(i64, i64),

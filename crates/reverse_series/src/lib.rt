@@ -19,7 +19,7 @@ use units::{UNIT, UNIT_DIVISOR};
 const RADIAN: i64 = 206_264_806;
 
 // The coefficients of sin 2β, sin 4β and sin 6β, in mas.
-#[derive(Drop)]
+#[derive(Clone, Copy)]
 pub struct Coefficients {
     pub two: i64,
     pub four: i64,

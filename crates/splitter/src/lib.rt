@@ -17,21 +17,21 @@ use text::{find, put_bytes};
 
 // The part of a line that has come so far: those of its bytes that decide its answer, and zeros after
 // them.
-#[derive(Drop)]
+#[derive(Clone, Copy)]
 pub struct Carried {
     pub bytes: [u8; KEPT_MOST],
     pub len: usize,
 }
 
 // What is carried after a piece, and how many bytes of answers it gave.
-#[derive(Drop)]
+#[derive(Clone, Copy)]
 pub struct Progress {
     pub carried: Carried,
     pub written: usize,
 }
 
 // Where the line starts that a piece does not end, and where the answers before it end.
-#[derive(Drop)]
+#[derive(Clone, Copy)]
 struct Answered {
     from: usize,
     written: usize,

@@ -12,7 +12,7 @@ use units::refusals::{BAD_LOOP, FULL_CELL, NO_NEW_SLOT, OUT_OF_LIMITS};
 
 // Every bit pattern is a value of every field.
 #[repr(C)]
-#[derive(Drop)]
+#[derive(Clone, Copy)]
 pub struct Tally {
     // the cells' side in cm
     pub side: i64,
@@ -38,14 +38,14 @@ pub enum SumsAnswer {
 }
 
 // An answer, and the tally after the call.
-#[derive(Drop)]
+#[derive(Clone, Copy)]
 pub struct NextTally {
     pub tally: Tally,
     pub answer: TallyAnswer,
 }
 
 // What reading a cell gives: its answer, and the tally as it was.
-#[derive(Drop)]
+#[derive(Clone, Copy)]
 pub struct ReadTally {
     pub tally: Tally,
     pub answer: SumsAnswer,

@@ -12,7 +12,7 @@ use integers::{magnitude, signed};
 use memchr::memchr;
 
 // What bytes spell: a number, or something else.
-#[derive(Drop)]
+#[derive(Clone, Copy)]
 pub enum Numeral {
     Number(i64),
     Other,

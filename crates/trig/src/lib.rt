@@ -79,7 +79,7 @@ pub fn first_quarter(t: &Table, theta: u64) -> u64
 }
 
 // The sine and the cosine of one angle from 0 to 90°.
-#[derive(Drop)]
+#[derive(Clone, Copy)]
 pub struct QuarterPair {
     pub sine: u64,
     pub cosine: u64,
@@ -100,7 +100,7 @@ pub fn quarter_pair(t: &Table, k: u64, r: u64) -> QuarterPair
 }
 
 // The angle from 0 to 90° that has the sine and the cosine of any angle, but for their signs.
-#[derive(Drop)]
+#[derive(Clone, Copy)]
 struct Fold {
     theta: u64,
     // the sine is negative
@@ -147,7 +147,7 @@ pub fn cosine(t: &Table, theta: i64) -> i64
 }
 
 // The sine and the cosine of one angle.
-#[derive(Drop)]
+#[derive(Clone, Copy)]
 pub struct SineCosine {
     pub sine: i64,
     pub cosine: i64,
