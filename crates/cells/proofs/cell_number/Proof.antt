@@ -5,7 +5,8 @@ use Prim.Native.Nat.{ℕ, ◌+◌, ◌/◌, ◌^◌, ◌<◌, ◌≤◌}
 use native.Mathlib.Nat.{div-lt_iff_lt-mul}
 use native.Mathlib.Omega.{arith}
 use lib.IntN.{ℤ, pos, nat_abs, ◌-ℤ◌}
-use lib.Signed.{◌≤ℤ◌, ◌<ℤ◌, quot_z, rem_z}
+use mathlib.Core.Bool.{true, false}
+use lib.Signed.{◌≤ℤ◌, ◌<ℤ◌, lt_z, quot_z, rem_z}
 use mir.Syntax.{w64}
 use mir.Val.{to_z, of_z}
 use mir.Facts.{to_z-of_z}
@@ -75,33 +76,35 @@ module _ (s : tie.Start) where
       (subst (λ (d : ℤ). pos 0 ≤ℤ rem_z z d → quot_z z d ≡ cell_number (nat_abs side) z) natural
       (λ h. sym (number_is (nat_abs side) some _ z (whole_cell (nat_abs side) some z h))))
 
+-- No name of a place behind the code's test stands here, since it holds the test's literal: `assumption` finds what the test told.
+module _ (s : tie.Start) where
+  abbrev rest' : ℤ
+  rest' = rem_z (z' s) (side' s)
+
 div-whole : tie.Need-nonzero_div-whole
 div-whole c =
     let size = most c in
     let small = quotient-small c in
     (rw as_word (divisor (search code depth 40 fits 20000) tt (positive c)), fits (search code depth 40 fits 20000) tt)
 
-rem-if1 : tie.Need-nonzero_rem-coordinate
-rem-if1 = div-whole
-
-sub-result : tie.Need-overflow_sub-result
-sub-result c =
-    let small = quotient-small c.before in
-    fits (search code depth 40 fits 20000) tt
-
-returns : tie.Need-returns-then-coordinate-side-lt0
-returns c =
-    let small = quotient-small c.before in
-    let rest = rest-small c.before in
-    let below = lt_taken (rw as_lt at c.if-coordinate-side-lt0.true) (search code depth 40 fits 20000) (search code depth 40 fits 20000) tt in
-    read (search code depth 40 fits 20000) tt ∙ lower c.before below
-
-returns-2 : tie.Need-returns-else-coordinate-side-lt0
-returns-2 c =
-    let small = quotient-small c.before in
-    let rest = rest-small c.before in
-    let above = lt_left (rw as_lt at c.if-coordinate-side-lt0.false) (search code depth 40 fits 20000) (search code depth 40 fits 20000) tt in
-    read (search code depth 40 fits 20000) tt ∙ whole c.before above
-
 pub cell_number_spec : {M : Type 1} → statement M
-cell_number_spec = tie.close (tie.spec div-whole rem-if1 sub-result returns returns-2)
+cell_number_spec =
+    tie.close
+    (tie.spec
+    div-whole
+    div-whole
+    (λ c.
+      let small = quotient-small c.before in
+      fits (search code depth 40 fits 20000) tt)
+    (λ c.
+      let small = quotient-small c.before in
+      let rest = rest-small c.before in
+      let told : lt_z (to_z w64 (of_z w64 (rest' c.before))) (pos 0) ≡ true = assumption in
+      let under = lt_taken (rw as_lt at told) (search code depth 40 fits 20000) (search code depth 40 fits 20000) tt in
+      read (search code depth 40 fits 20000) tt ∙ lower c.before under)
+    (λ c.
+      let small = quotient-small c.before in
+      let rest = rest-small c.before in
+      let told : lt_z (to_z w64 (of_z w64 (rest' c.before))) (pos 0) ≡ false = assumption in
+      let over = lt_left (rw as_lt at told) (search code depth 40 fits 20000) (search code depth 40 fits 20000) tt in
+      read (search code depth 40 fits 20000) tt ∙ whole c.before over))
