@@ -1,5 +1,6 @@
 -- `trig::first_quarter` meets its contract: it follows the two cases of the definition. Where r is not 0, θ is below 90°, so minute k + 1
--- is still in the table. Assumes nothing.
+-- is still in the table. No name of a place behind the code's test stands here, since it holds the test's literal: `assumption` finds what the
+-- test told. Assumes nothing.
 use borrow.Author.Rules.{rules}
 use mathlib.Core.Path.{◌≡◌, sym, ap₂, ◌∙◌}
 use Prim.Native.Nat.{ℕ, ◌+◌, ◌-◌, ◌*◌, ◌/◌, ◌%◌, ◌<◌, ◌≤◌}
@@ -30,7 +31,7 @@ module _ (c : tie.After-rise) where
   low = c.before.before.minute_sine-low.result
 
   k_inside : k < quarter_minutes
-  k_inside = omega (arith, c.before.if-r-eq0.false, start.requires.1)
+  k_inside = omega (arith, start.requires.1)
 
   low-is : low ≡ entry k
   low-is = c.before.before.minute_sine-low.ensures
@@ -40,10 +41,6 @@ module _ (c : tie.After-rise) where
 
 minute-sine-requires : tie.Need-minute_sine-low-requires
 minute-sine-requires c κs = search rules
-
-returns : tie.Need-returns-then-r-eq0
-unfolding first_quarter
-returns c = c.before.minute_sine-low.ensures ∙ sym (on_minute _ _ c.if-r-eq0.true)
 
 rise-requires : tie.Need-rise-requires
 rise-requires c κs = search rules
@@ -68,9 +65,17 @@ returns-2 c =
     let b = c.before in
     c.between.ensures
     ∙ ap₂ (λ (x y : ℕ). x + (y * r b + 30_000 + whole_correction x (r b * (minute - r b))) / minute) (low-is b) b.rise.ensures
-    ∙ sym (past_minute (k b) (r b) b.before.if-r-eq0.false (k_inside b) (mod-lt (start b).args.theta (lit< tt)))
+    ∙ sym (past_minute (k b) (r b) (assumption) (k_inside b) (mod-lt (start b).args.theta (lit< tt)))
 
 pub first_quarter_spec : {M : Type 1} → statement M
+unfolding first_quarter
 first_quarter_spec =
     tie.close
-    (tie.spec minute-sine-requires returns rise-requires sub-between mul-between between-requires returns-2)
+    (tie.spec
+    minute-sine-requires
+    (λ c. c.before.minute_sine-low.ensures ∙ sym (on_minute _ _ assumption))
+    rise-requires
+    sub-between
+    mul-between
+    between-requires
+    returns-2)
