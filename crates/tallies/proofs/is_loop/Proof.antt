@@ -1,16 +1,21 @@
--- `is_loop` meets its contract. Assumes nothing.
+-- `is_loop` meets its contract. No name of a place behind the code's test stands here, since it holds the test's literal: `assumption` finds what
+-- the test told. Assumes nothing.
+use mathlib.Core.Path.{◌≡◌}
+use mathlib.Core.Bool.{true}
+use Prim.Native.Nat.{ℕ}
+use lib.Dec.{eqb}
 use borrow.Author.Tests.{eq-eqb, ne_eqb}
 use Rattle.tallies.specs.Tallies.{is_loop}
 use Rattle.tallies.proofs.is_loop.Statement.{statement}
 use Rattle.tallies.proofs.is_loop.Tie as tie
 
-returns : tie.Need-returns-then-loop_number-eq1
+first : (loop : ℕ) → loop ≡ 1 → true ≡ is_loop loop
 unfolding is_loop
-returns c = rw (eq-eqb _ 1 c.if-loop_number-eq1.true)
+first loop is = rw (eq-eqb loop 1 is)
 
-returns-2 : tie.Need-returns
+other : (loop : ℕ) → (loop ≡ 1 → ⊥) → eqb loop 2 ≡ is_loop loop
 unfolding is_loop
-returns-2 c = rw (ne_eqb _ 1 c.if-loop_number-eq1.false)
+other loop not_first = rw (ne_eqb loop 1 not_first)
 
 pub is_loop_spec : {M : Type 1} → statement M
-is_loop_spec = tie.close (tie.spec returns returns-2)
+is_loop_spec = tie.close (tie.spec (λ c. first c.before.args.loop_number assumption) (λ c. other c.before.args.loop_number assumption))
