@@ -1,5 +1,5 @@
 -- What the calls' answers say: a written code is read back, a read text is what would be written, and 31 alone refuses. Assumes nothing.
-use mathlib.Core.Path.{◌≡◌, refl, ap, ap₂, ◌∙◌}
+use mathlib.Core.Path.{◌≡◌, refl, sym, ap, ap₂, ◌∙◌}
 use mathlib.Core.List.{List}
 use Prim.Native.Nat.{ℕ, zero, suc, ◌<◌, ◌≤◌}
 use native.Mathlib.Omega.{arith}
@@ -20,7 +20,7 @@ use Rattle.grid_codes.proofs.Lengths.{code_most}
 use Rattle.grid_codes.proofs.WritingLaws.{enough_room}
 use Rattle.code_reading.specs.declared.ReadCode.{ReadCode}
 use Rattle.code_reading.specs.declared.ReadCode.TheVariants.{Cell, Refused as Unread}
-use Rattle.code_reading.specs.Reading.{byte_N, byte_E, side_named, cell_numeral, of_numbers, numbers_of, of_side, code_of}
+use Rattle.code_reading.specs.Reading.{byte_N, byte_E, side_named, cell_numeral, of_numbers, numbers_of, of_side, code_of, read_told, told_of_text}
 use Rattle.code_reading.specs.Theorems.{WrittenRead, ReadWritten, UnreadExactly, ReadNumbers}
 use Rattle.code_reading.proofs.CodeLaws.{has_code_read, IsCode, is_code, read_exactly}
 
@@ -101,3 +101,12 @@ long_unread text long = unread text too_long
         let is = is_code text side east north e in
         let short = code_most side east north is.cell in
         omega (arith, ap length is.is_text)
+
+-- as the call answers it
+module _ (text : List ℕ) (long : 18 < length text) where
+  pub long_answered : Unread not_a_code ≡ code_of text
+  long_answered = sym (long_unread text long)
+
+  pub long_told : read_told (Unread not_a_code) ≡ told_of_text text
+  unfolding told_of_text
+  long_told = ap read_told long_answered

