@@ -94,17 +94,17 @@ cell_number_spec =
     div-whole
     div-whole
     (λ c.
-      let small = quotient-small c.before in
-      fits (search code depth 40 fits 20000) tt)
+    let small = quotient-small c.before in
+    fits (search code depth 40 fits 20000) tt)
     (λ c.
-      let small = quotient-small c.before in
-      let rest = rest-small c.before in
-      let told : lt_z (to_z w64 (of_z w64 (rest' c.before))) (pos 0) ≡ true = assumption in
-      let under = lt_taken (rw as_lt at told) (search code depth 40 fits 20000) (search code depth 40 fits 20000) tt in
-      read (search code depth 40 fits 20000) tt ∙ lower c.before under)
+    let small = quotient-small c.before in
+    let rest = rest-small c.before in
+    let told : lt_z (to_z w64 (of_z w64 (rest' c.before))) (pos 0) ≡ true = assumption in
+    let under = lt_taken (rw as_lt at told) (search code depth 40 fits 20000) (search code depth 40 fits 20000) tt in
+    read (search code depth 40 fits 20000) tt ∙ lower c.before under)
     (λ c.
-      let small = quotient-small c.before in
-      let rest = rest-small c.before in
-      let told : lt_z (to_z w64 (of_z w64 (rest' c.before))) (pos 0) ≡ false = assumption in
-      let over = lt_left (rw as_lt at told) (search code depth 40 fits 20000) (search code depth 40 fits 20000) tt in
-      read (search code depth 40 fits 20000) tt ∙ whole c.before over))
+    let small = quotient-small c.before in
+    let rest = rest-small c.before in
+    let told : lt_z (to_z w64 (of_z w64 (rest' c.before))) (pos 0) ≡ false = assumption in
+    let over = lt_left (rw as_lt at told) (search code depth 40 fits 20000) (search code depth 40 fits 20000) tt in
+    read (search code depth 40 fits 20000) tt ∙ whole c.before over))

@@ -14,13 +14,13 @@ magnitude_spec =
     (λ c. raised_fits (negative c.before.args.n c.before.ranges.n assumption))
     (λ c. turned_fits (negative c.before.args.n c.before.ranges.n assumption))
     (λ c.
-      let below = negative c.before.args.n c.before.ranges.n assumption in
-      rw (flipped_is below) (tt, record { fits = omega (arith, below.small) }))
+    let below = negative c.before.args.n c.before.ranges.n assumption in
+    rw (flipped_is below) (tt, record { fits = omega (arith, below.small) }))
     (λ c.
-      rw (one_more (negative c.before.args.n c.before.ranges.n assumption))
-      (record { fits = omega (arith, size_fits c.before.args.n c.before.ranges.n) }))
+    rw (one_more (negative c.before.args.n c.before.ranges.n assumption))
+    (record { fits = omega (arith, size_fits c.before.args.n c.before.ranges.n) }))
     (λ c.
-      rw (not_below c.before.args.n c.before.ranges.n assumption)
-      (tt, record { fits = omega (arith, size_fits c.before.args.n c.before.ranges.n) }))
+    rw (not_below c.before.args.n c.before.ranges.n assumption)
+    (tt, record { fits = omega (arith, size_fits c.before.args.n c.before.ranges.n) }))
     (λ c. one_more (negative c.before.args.n c.before.ranges.n assumption))
     (λ c. ap nat_abs (not_below c.before.args.n c.before.ranges.n assumption)))

@@ -37,13 +37,13 @@ wrap_spec =
     (tie.spec
     (λ c. fits (search code depth 40 fits 20000) tt)
     (λ c.
-      let s = c.before in
-      read (search code depth 40 fits 20000) tt ∙ sym (wrapped_low s.args.lon (low s.args.lon s.ranges.lon assumption)))
+    let s = c.before in
+    read (search code depth 40 fits 20000) tt ∙ sym (wrapped_low s.args.lon (low s.args.lon s.ranges.lon assumption)))
     (λ c. fits (search code depth 40 fits 20000) tt)
     (λ c.
-      let s = c.before.before in
-      read (search code depth 40 fits 20000) tt ∙ sym (wrapped_high s.args.lon (high s.args.lon s.ranges.lon assumption)))
+    let s = c.before.before in
+    read (search code depth 40 fits 20000) tt ∙ sym (wrapped_high s.args.lon (high s.args.lon s.ranges.lon assumption)))
     (λ c.
-      let s = c.before.before in
-      read (search code depth 40 fits 20000) tt
-      ∙ sym (wrapped_between s.args.lon (not_low s.args.lon s.ranges.lon assumption) (not_high s.args.lon s.ranges.lon assumption))))
+    let s = c.before.before in
+    read (search code depth 40 fits 20000) tt
+    ∙ sym (wrapped_between s.args.lon (not_low s.args.lon s.ranges.lon assumption) (not_high s.args.lon s.ranges.lon assumption))))
