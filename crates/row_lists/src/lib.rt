@@ -134,6 +134,7 @@ pub fn fill(
 }
 
 // How many marks are 0.
+#[tactic(auto, using(crate::proofs::ListLaws::zero_counted, crate::proofs::ListLaws::other_not_counted, crate::proofs::ListLaws::zeros_most, crate::proofs::ListLaws::zeros_past))]
 pub fn count_zeros(marks: &[u8]) -> u64
     ensures { result ≡ zeros marks.now }
 {
