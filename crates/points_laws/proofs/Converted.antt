@@ -82,7 +82,8 @@ module _ (p : Parameters) (at : GeodeticPair) (pair : PlanePair) (e : forward_de
 pub forward_converted : ForwardConverted
 forward_converted p at pair e =
     let passed = forward_passed p at pair e in
-    sym e ∙ converted-forward p at passed.set_passed passed.finite_passed passed.inside_passed
+    let told = converted-forward p at passed.set_passed passed.finite_passed passed.inside_passed in
+    cc (e, told)
 
 pub forward_finite : ForwardFinite
 forward_finite p at pair e = each_finite (forward_floats p at pair e)
