@@ -1,6 +1,10 @@
 -- Document 01, "Refusal numbers", with those of requests a), c), e) and f) of document 02: the numbers by name, and chains of tests of which the first
 -- that fails gives its number.
-use Rattle.std.specs.Prelude.{ℕ, zero, suc, Bool, true, false, List, [], ◌∷◌, ◌⊎◌, ◌≡◌}
+use Rattle.std.specs.Prelude.{ℕ, zero, suc, Bool, true, false, List, [], ◌∷◌, ◌⊎◌, ◌≡◌, Result, Ok, Err}
+use Rattle.units.specs.declared.refusals.Refusal.{Refusal}
+use Rattle.units.specs.declared.refusals.Refusal.TheVariants.{NotFinite, OutOfLimits, TooFar, UnequalLists, LongLists}
+use Rattle.units.specs.declared.refusals.Refusal.TheVariants.{BadA, BadE2, BadLat0, BadLon0, BadFalseEasting, BadFalseNorthing}
+use Rattle.units.specs.declared.refusals.Refusal.TheVariants.{NotACode, NegativeCell, LittleRoom, PowerNotFinite, PowerOutOfLimits, FullCell, NoNewSlot, BadLoop}
 
 -- "a coordinate is NaN or infinite"
 abbrev pub not_finite : ℕ
@@ -69,6 +73,33 @@ no_new_slot = 44
 -- "45 for a loop number other than 1 or 2, tested first"
 abbrev pub bad_loop : ℕ
 bad_loop = 45
+
+-- the number of each refusal
+abbrev pub number : Refusal → ℕ
+number NotFinite = not_finite
+number OutOfLimits = out_of_limits
+number TooFar = too_far
+number UnequalLists = unequal_lists
+number LongLists = long_lists
+number BadA = bad_a
+number BadE2 = bad_e2
+number BadLat0 = bad_lat0
+number BadLon0 = bad_lon0
+number BadFalseEasting = bad_false_easting
+number BadFalseNorthing = bad_false_northing
+number NotACode = not_a_code
+number NegativeCell = negative_cell
+number LittleRoom = little_room
+number PowerNotFinite = power_not_finite
+number PowerOutOfLimits = power_out_of_limits
+number FullCell = full_cell
+number NoNewSlot = no_new_slot
+number BadLoop = bad_loop
+
+-- the number that an answer or a test is refused by; 0 where it is not
+abbrev pub refusal_number : {A : Type 0} → Result A Refusal → ℕ
+refusal_number (Ok given) = 0
+refusal_number (Err refusal) = number refusal
 
 -- where the test fails, the refusal number; else what the next tests say
 abbrev pub unless : Bool → ℕ → ℕ → ℕ

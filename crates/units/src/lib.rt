@@ -55,20 +55,18 @@ pub fn both(first: bool, second: bool) -> bool
 }
 
 // Whether z is from low to high, both counted.
+#[tactic(auto, unfolding(crate::specs::Spans::within))]
 pub fn is_within(low: i64, high: i64, z: i64) -> bool
     ensures { result ≡ within low high z }
 {
-    if z < low {
-        return false;
-    }
-    z <= high
+    low <= z && z <= high
 }
 
 // Whether x is from low to high and y from least to most.
 pub fn are_within(low: i64, high: i64, x: i64, least: i64, most: i64, y: i64) -> bool
     ensures { result ≡ (within low high x && within least most y) }
 {
-    both(is_within(low, high, x), is_within(least, most, y))
+    is_within(low, high, x) && is_within(least, most, y)
 }
 
 // Whether easting and northing are within ±50,000,000 m.
