@@ -15,18 +15,14 @@ pub const WIDENED_BY: u64 = 4;
 pub fn magnitude(n: i64) -> u64
     ensures { result ≡ nat_abs n }
 {
-    if n < 0 {
-        (-(n + 1)) as u64 + 1
-    } else {
-        n as u64
-    }
+    n.unsigned_abs()
 }
 
 // By how much a exceeds b; 0 where it does not.
 pub fn excess(a: u64, b: u64) -> u64
     ensures { result ≡ a - b }
 {
-    if b < a { a - b } else { 0 }
+    a.saturating_sub(b)
 }
 
 // The number of this size and sign.
