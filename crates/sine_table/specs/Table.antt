@@ -1,6 +1,8 @@
 -- Table T, document 01, "Sine and angle": the sine of each whole minute from 0 to 5400, in parts of U.
 -- Natural numbers serve throughout: the powers of x stand over one denominator, and those with a minus are summed apart.
 use Rattle.std.specs.Prelude.{ℕ, zero, suc, ◌+◌, ◌-◌, ◌*◌, ◌/◌, ◌^◌, ◌<◌, ◌≡◌, List, get_or}
+use Rattle.std.specs.Coded.{Π_prop}
+use native.Mathlib.Nat.{ℕ_set}
 use Rattle.integers.specs.Near.{nearest}
 use Rattle.units.specs.Units.{unit}
 
@@ -38,6 +40,11 @@ entry k = nearest (unit * (positive k - negative k)) common_denominator
 -- "Table T has 5,401 entries, minute 0 to 5400."
 unfoldable pub IsTable : List ℕ → Type 0
 IsTable xs = (k : ℕ) → k < 5401 → get_or xs k 0 ≡ entry k
+
+-- It holds in one way at most, so that a table can carry it.
+pub IsTable-prop : (xs : List ℕ) → IsProp (IsTable xs)
+unfolding IsTable
+IsTable-prop xs = Π_prop (λ k. Π_prop (λ _. ℕ_set _ _))
 
 -- "with T strictly rising"
 abbrev pub StrictlyRising : Type 0

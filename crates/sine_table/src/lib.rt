@@ -4,15 +4,21 @@
 
 mod minutes;
 
-ghost use Rattle.sine_table.specs.Table.{IsTable};
+ghost use Rattle.sine_table.specs.Table.{IsTable, IsTable-prop};
 
-// One value for each whole minute from 0 to 90°.
-pub type Table = [u32; 5401];
+// T: one value for each whole minute from 0 to 90°.
+#[derive(Drop)]
+pub struct SineTable {
+    pub sines: [u32; 5401],
+    pub ghost is_table: { IsTable sines } by { IsTable-prop sines },
+}
 
-// T, for a caller to make once and lend. A function that names the array copies its 5,401 values at each call, so this is the only
-// one that names it.
-pub fn table() -> Table
-    ensures { IsTable result }
-{
-    minutes::SINES
+impl SineTable {
+    // T, for a caller to make once and lend. A function that names the array copies its 5,401 values at each call, so this is the
+    // only one that names it.
+    pub fn new() -> SineTable {
+        SineTable {
+            sines: minutes::SINES,
+        }
+    }
 }

@@ -1,4 +1,4 @@
--- `sine_table::table` meets its contract: each value of the array is the entry of its minute, by one test over the whole array,
+-- The array of `SineTable::new` is the table: each value of the array is the entry of its minute, by one test over the whole array,
 -- which antt computes, and one lemma that carries the test to each place. Assumes nothing.
 use Prim.Native.Nat.{ℕ, zero, suc, ◌+◌, ◌<◌}
 use native.Mathlib.Nat.{add-zero, zero-add, add-suc, suc-add, le_of_suc-le-suc, not-suc-le-zero}
@@ -9,8 +9,7 @@ use lib.Dec.{T, eqb, eqb→eq}
 use lib.ListN.{length, get_or}
 use lib.Ieee.Fits.{and_l, and_r}
 use Rattle.sine_table.specs.Table.{entry, IsTable}
-use Rattle.sine_table.proofs.table.Statement.{statement}
-use Rattle.sine_table.proofs.table.Tie as tie
+use Rattle.sine_table.proofs.SineTable.new.Goals as goal
 
 -- The values of the list are the entries from minute i on.
 entries_from : ℕ → List ℕ → Bool
@@ -31,9 +30,6 @@ unfolding IsTable
 is-table xs l t k h = rw zero-add at (carry xs 0 t k (rw l h))
 
 -- `_` is the array, as a list: antt reads it off the goal, in which `IsTable` is shut.
-returns : tie.Need-returns
+pub invariant_of-result : goal.invariant_of-result
 unfolding entry entries_from
-returns c = is-table _ refl tt
-
-pub table_spec : {M : Type 1} → statement M
-table_spec = tie.close (tie.spec returns)
+invariant_of-result c = record { is_table = is-table _ refl tt }
