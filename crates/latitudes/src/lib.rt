@@ -15,7 +15,7 @@ use trig::{SineCosine, cosine, sine, sine_by_line, sine_by_minute, sine_cosine};
 use units::{UNIT, UNIT_DIVISOR};
 
 // The latitude on the ellipsoid.
-#[derive(Clone, Copy)]
+#[derive(Clone, Copy, Debug, PartialEq, Eq)]
 pub struct Geodetic(pub i64);
 
 // The latitude on the sphere of equal area. Only `to_authalic` makes one from a geodetic latitude.
