@@ -1,5 +1,5 @@
 -- Document 01, "Parameter set and its constants": which sets are accepted, and ETRS-LAEA.
--- The limits are those of the associated constants of `Parameters`: the proofs of `Parameters::refusal` and `Parameters::etrs_laea` hold the two together.
+-- The limits are those of the associated constants of `Parameters`: the proofs of `Parameters::check` and `Parameters::etrs_laea` hold the two together.
 use Rattle.std.specs.Prelude.{ℕ, Bool, ◌||◌, ◌&&◌, ℤ, pos, neg_ℤ}
 use Rattle.std.specs.Int.Signed.{lt_z, le_z}
 use Rattle.units.specs.Units.{right_angle, half_turn}

@@ -2,15 +2,15 @@
 #![tactic(auto)]
 
 ghost use Rattle.std.specs.Prelude.{◌≡◌};
+ghost use Rattle.units.specs.Refusals.{refusal_number};
 ghost use Rattle.parameters.specs.ParameterSet.{accepted_a, accepted_e2, polar, accepted_lat0, accepted_lon0, accepted_false, set_refusal, etrs_laea};
 
 use latitudes::Geodetic;
-use units::refusals::{
-    BAD_A, BAD_E2, BAD_FALSE_EASTING, BAD_FALSE_NORTHING, BAD_LAT0, BAD_LON0, unless,
-};
+use units::refusals::Refusal;
 use units::{LATITUDE_LEAST, LATITUDE_MOST, is_within};
 
 // Whether a is an accepted semi-major axis.
+#[tactic(auto, unfolding(crate::specs::ParameterSet::accepted_a))]
 fn is_a(a: i64) -> bool
     ensures { result ≡ accepted_a a }
 {
@@ -18,6 +18,7 @@ fn is_a(a: i64) -> bool
 }
 
 // Whether e2 is an accepted eccentricity squared.
+#[tactic(auto, unfolding(crate::specs::ParameterSet::accepted_e2))]
 fn is_e2(e2: i64) -> bool
     ensures { result ≡ accepted_e2 e2 }
 {
@@ -25,6 +26,7 @@ fn is_e2(e2: i64) -> bool
 }
 
 // Whether z is an accepted false easting or northing.
+#[tactic(auto, unfolding(crate::specs::ParameterSet::accepted_false))]
 fn is_false(z: i64) -> bool
     ensures { result ≡ accepted_false z }
 {
@@ -32,38 +34,32 @@ fn is_false(z: i64) -> bool
 }
 
 // Whether lat0 is a pole.
+#[tactic(auto, unfolding(crate::specs::ParameterSet::polar, units::specs::Spans::same))]
 pub fn is_pole(lat0: Geodetic) -> bool
     ensures { result ≡ polar lat0 }
 {
-    let phi0 = lat0.0;
-    if is_within(LATITUDE_MOST, LATITUDE_MOST, phi0) {
-        return true;
-    }
-    is_within(LATITUDE_LEAST, LATITUDE_LEAST, phi0)
+    is_within(LATITUDE_MOST, LATITUDE_MOST, lat0.0)
+        || is_within(LATITUDE_LEAST, LATITUDE_LEAST, lat0.0)
 }
 
 // Whether lat0 is an accepted latitude of the natural origin.
+#[tactic(auto, unfolding(crate::specs::ParameterSet::accepted_lat0))]
 fn is_lat0(lat0: Geodetic) -> bool
     ensures { result ≡ accepted_lat0 lat0 }
 {
-    if is_within(Parameters::LAT0_LEAST, Parameters::LAT0_MOST, lat0.0) {
-        return true;
-    }
-    is_pole(lat0)
+    is_within(Parameters::LAT0_LEAST, Parameters::LAT0_MOST, lat0.0) || is_pole(lat0)
 }
 
 // Whether lon0 is an accepted longitude of the natural origin.
+#[tactic(auto, unfolding(crate::specs::ParameterSet::accepted_lon0))]
 fn is_lon0(lon0: i64) -> bool
     ensures { result ≡ accepted_lon0 lon0 }
 {
-    if lon0 <= Parameters::LON0_ABOVE {
-        return false;
-    }
-    lon0 <= Parameters::LON0_MOST
+    Parameters::LON0_ABOVE < lon0 && lon0 <= Parameters::LON0_MOST
 }
 
-// Every bit pattern is a value of every field; `refusal` says whether the set is accepted.
-#[derive(Clone, Copy)]
+// Every bit pattern is a value of every field; `check` says whether the set is accepted.
+#[derive(Clone, Copy, Debug, PartialEq, Eq)]
 pub struct Parameters {
     // semi-major axis in cm
     pub a: i64,
@@ -114,16 +110,16 @@ impl Parameters {
         Parameters::ETRS_LAEA
     }
 
-    // Of the first field that is not accepted; 0 is none: the set is accepted.
-    pub fn refusal(self) -> u8
-        ensures { result ≡ set_refusal self }
+    // Refused by the first field that is not accepted.
+    #[tactic(auto, unfolding(crate::specs::ParameterSet::set_refusal))]
+    pub fn check(self) -> Result<(), Refusal>
+        ensures { refusal_number result ≡ set_refusal self }
     {
-        let lat0 = self.lat0;
-        let northing = unless(is_false(self.false_northing), BAD_FALSE_NORTHING, 0);
-        let easting = unless(is_false(self.false_easting), BAD_FALSE_EASTING, northing);
-        let lon0 = unless(is_lon0(self.lon0), BAD_LON0, easting);
-        let origin = unless(is_lat0(lat0), BAD_LAT0, lon0);
-        let e2 = unless(is_e2(self.e2), BAD_E2, origin);
-        unless(is_a(self.a), BAD_A, e2)
+        Refusal::BadA.unless(is_a(self.a))?;
+        Refusal::BadE2.unless(is_e2(self.e2))?;
+        Refusal::BadLat0.unless(is_lat0(self.lat0))?;
+        Refusal::BadLon0.unless(is_lon0(self.lon0))?;
+        Refusal::BadFalseEasting.unless(is_false(self.false_easting))?;
+        Refusal::BadFalseNorthing.unless(is_false(self.false_northing))
     }
 }
