@@ -1,11 +1,12 @@
 -- The tests of a coordinate as bounds: a double passes the test of a limit exactly if it is finite and its size is at most the limit. A
 -- comparison of two finite doubles compares their values as fractions, and a NaN fails every comparison. Assumes nothing.
 use Rattle.std.proofs.Common.{◌≡◌, ℕ, ◌*◌, ◌^◌, ◌<◌, ◌≤◌, Bool, true, false, not, T, ltb, ℤ, pos, sym, refl, ap, ◌∙◌, le_trans, mul-le-mul_right, le_of_mul-le-mul_right, arith, ltb-false, le-ltb}
-use mathlib.Core.Bool.{and-true, and-false, or-false, false≢true}
+use mathlib.Core.Bool.{or-false, false≢true}
 use lib.Ieee.{Float, nan, inf, fin, up, down, lt, neg, is_nan}
 use lib.Ieee.Exact.{HasValue}
 use lib.Ieee.Fits.{down_pos}
 use borrow.Author.Tests.{not-true}
+use Rattle.std.specs.Float.{float_is_finite}
 use Rattle.floats.specs.Limits.{is_finite, beyond, within_limit}
 
 -- x is finite, and at most `most` in size
@@ -73,29 +74,9 @@ at_most_within l p (fin s m e) h =
 pub within_more : (l p m q : ℕ) (x : Float) → l * 2 ^ p ≤ m * 2 ^ q → within_limit (fin false l (pos p)) x ≡ true → within_limit (fin false m (pos q)) x ≡ true
 within_more l p m q x more h = at_most_within m q x (at_most_more (l * 2 ^ p) (m * 2 ^ q) x more (within_at_most l p x h))
 
--- ---- the tests as the code makes them
-
-pub low_fails : (limit x : Float) → lt x (neg limit) ≡ true → false ≡ within_limit limit x
-unfolding within_limit beyond
-low_fails limit x low = rw (low, and-false (is_finite x))
-
-pub high_fails : (limit x : Float) → lt x (neg limit) ≡ false → lt limit x ≡ true → false ≡ within_limit limit x
-unfolding within_limit beyond
-high_fails limit x low high = rw (low, high, and-false (is_finite x))
-
-pub neither_fails : (limit x : Float) → lt x (neg limit) ≡ false → lt limit x ≡ false → is_finite x ≡ within_limit limit x
-unfolding within_limit beyond
-neither_fails limit x low high = rw (low, high, and-true (is_finite x))
-
-pub above_low : (x : Float) → lt (inf true) x ≡ true → lt x (inf false) ≡ is_finite x
-unfolding lt is_finite
-above_low nan h = refl
-above_low (inf false) h = refl
-above_low (inf true) h = absurd (false≢true h)
-above_low (fin s m e) h = refl
-
-pub not_above_low : (x : Float) → lt (inf true) x ≡ false → false ≡ is_finite x
-unfolding lt is_finite
-not_above_low nan h = refl
-not_above_low (inf s) h = refl
-not_above_low (fin s m e) h = absurd (false≢true (sym h))
+-- std's word for the same test
+pub finite_by_std : (x : Float) → float_is_finite x ≡ is_finite x
+unfolding is_finite float_is_finite
+finite_by_std nan = refl
+finite_by_std (inf s) = refl
+finite_by_std (fin s m e) = refl

@@ -2,43 +2,38 @@
 -- passes the limit's test, since one rounding does not pass a whole number; taking it back gives the number again, since the rounding misses
 -- the quotient by less than half a unit. A double that passes is a whole number up to the limit, since rounding never falls.
 -- Assumes nothing.
-use Rattle.std.proofs.Common.{◌≡◌, ℕ, ◌*◌, ◌^◌, ◌<◌, ◌≤◌, Bool, true, false, not, ◌&&◌, ℤ, pos, nat_abs, sym, refl, ap, ◌∙◌, subst, lt_of_le_of_lt, le_of_lt, mul-le-mul_right, zero-mul, arith, lit<, lit≤, pow_pos}
+use Rattle.std.proofs.Common.{◌≡◌, ℕ, ◌*◌, ◌^◌, ◌<◌, ◌≤◌, Bool, true, false, not, ◌&&◌, ℤ, pos, nat_abs, sym, refl, ap, ◌∙◌, subst, lt_of_le_of_lt, le_of_lt, mul-le-mul, mul-le-mul_right, zero-mul, arith, lit<, lit≤, pow_pos}
 use lib.Ieee.{Float, nan, inf, fin, up, down}
 use lib.Ieee.Fits.{down_pos}
 use Rattle.integers.specs.Near.{nearest, signed}
 use Rattle.integers.proofs.Rounding.{nearest_only, nearest_mono, nearest_whole, nearest_zero}
-use Rattle.units.specs.Units.{right_angle, half_turn, degree, metre, plane_limit}
 use Rattle.floats.specs.Conversion.{whole_of, float_of}
+use Rattle.floats.specs.Kinds.{Coordinate}
 use Rattle.floats.specs.Limits.{is_finite, beyond, within_limit, latitude_limit, longitude_limit, plane_limit_float}
 use Rattle.floats.proofs.Signs.{negative, signed_again, signed_size, signed_zero}
 use Rattle.floats.proofs.Bounds.{AtMost, at_most_finite, at_most_value, within_at_most, at_most_within, within_more}
 use Rattle.floats.proofs.Pattern.{whole_of_value}
 use Rattle.floats.proofs.Quotient.{Rounded, float_rounded}
 
--- a kind of coordinate: its unit, its limit as a double, and the limit in units. The double is digits · 2^twos.
-pub record Coordinate (unit : ℕ) (limit : Float) (most : ℕ) : Type 0 where
-  pub digits : ℕ
-  pub twos : ℕ
-  pub limit_is : limit ≡ fin false digits (pos twos)
-  pub most_is : most ≡ digits * 2 ^ twos * unit
-  pub unit_some : 0 < unit
-  pub unit_small : unit ≤ 2 ^ 53
-  pub most_small : most < 2 ^ 51
+module _ {unit : ℕ} {limit : Float} {most : ℕ} (kind : Coordinate unit limit most) where
+  -- a limit in units is a number of 51 binary digits
+  most_small : most < 2 ^ 51
+  most_small = omega (arith, kind.most_is, mul-le-mul kind.limit_small kind.unit_small)
 
-pub latitude : Coordinate degree latitude_limit right_angle
-latitude = record { digits = 45; twos = 1; limit_is = refl; most_is = refl; unit_some = lit< tt; unit_small = lit≤ tt; most_small = lit< tt }
+  unit_small : unit ≤ 2 ^ 53
+  unit_small = omega (arith, kind.unit_small)
 
-pub longitude : Coordinate degree longitude_limit half_turn
-longitude = record { digits = 45; twos = 2; limit_is = refl; most_is = refl; unit_some = lit< tt; unit_small = lit≤ tt; most_small = lit< tt }
-
-pub plane : Coordinate metre plane_limit_float plane_limit
-plane = record { digits = 390_625; twos = 7; limit_is = refl; most_is = refl; unit_some = lit< tt; unit_small = lit≤ tt; most_small = lit< tt }
+  -- the limit of easting and northing in metres is the highest of all
+  pub within_highest : (x : Float) → within_limit limit x ≡ true → within_limit plane_limit_float x ≡ true
+  within_highest x h =
+      within_more kind.digits kind.twos 390_625 7 x kind.limit_small
+      (subst (λ (l : Float). within_limit l x ≡ true) kind.limit_is h)
 
 -- ---- out: a whole number of units as a double
 
 module _ {unit : ℕ} {limit : Float} {most : ℕ} (kind : Coordinate unit limit most) (n : ℤ) (h : nat_abs n ≤ most) where
   out : Rounded (float_of unit n) (negative n) (nat_abs n) unit
-  out = float_rounded unit n kind.unit_some kind.unit_small (lt_of_le_of_lt h kind.most_small)
+  out = float_rounded unit n kind.unit_some (unit_small kind) (lt_of_le_of_lt h (most_small kind))
 
   at_most : AtMost (kind.digits * 2 ^ kind.twos) (float_of unit n)
   at_most =

@@ -1,2 +1,3 @@
 pub mod Conversion
 pub mod Limits
+pub mod Kinds

@@ -2,68 +2,116 @@
 // Whole units are milliarcseconds (mas), centimetres (cm) and, for powers, nanowatts.
 #![tactic(auto)]
 
-ghost use Rattle.std.specs.Prelude.{◌≡◌, ◌≤◌, true};
+ghost use Rattle.std.specs.Prelude.{◌≡◌, ◌≤◌, ℕ, Float, true};
 ghost use Rattle.std.specs.Float.{binary64};
 ghost use Rattle.std.specs.Float.Ieee.{of_int};
-ghost use Rattle.units.specs.Units.{degree, metre};
+ghost use Rattle.units.specs.Units.{degree, metre, right_angle, half_turn, plane_limit};
 ghost use Rattle.floats.specs.Conversion.{whole_of, float_of};
 ghost use Rattle.floats.specs.Limits.{is_finite, within_limit, latitude_limit, longitude_limit, plane_limit_float};
+ghost use Rattle.floats.specs.Kinds as Kinds;
 
 use integers::{nearest, signed};
 use units::{DEGREE, METRE};
 
-// Latitude and longitude in degrees, easting and northing in metres, lie within ± these.
-const LATITUDE_LIMIT: f64 = 90.0;
+// A kind of coordinate: in degrees or metres as a float, and in mas or cm as a whole number.
+pub trait Coordinate {
+    // A float of this kind is from −LIMIT to LIMIT.
+    ghost LIMIT: { Float };
 
-const LONGITUDE_LIMIT: f64 = 180.0;
+    const LIMIT: f64;
 
-const PLANE_LIMIT: f64 = 50_000_000.0;
+    // The whole units in one degree or one metre.
+    ghost UNIT: { ℕ };
 
-// mas in a degree and cm in a metre, as divisors.
-const MAS_IN_DEGREE: f64 = 3_600_000.0;
+    const UNIT: u64;
 
-const CM_IN_METRE: f64 = 100.0;
+    // The limit in whole units.
+    ghost most: { ℕ };
+
+    // x is finite, and from −LIMIT to LIMIT.
+    #[tactic(auto, unfolding(crate::specs::Limits::within_limit, crate::specs::Limits::beyond))]
+    fn is_within(x: f64) -> bool
+        ensures { result ≡ within_limit LIMIT x }
+    {
+        is_finite(x) && !(x < -Self::LIMIT || Self::LIMIT < x)
+    }
+
+    // In from the double's exact value: near(x · UNIT).
+    fn to_whole(x: f64) -> i64
+        requires { within_limit LIMIT x ≡ true }
+        ensures { result ≡ whole_of UNIT x }
+    {
+        whole_units(Self::UNIT, x)
+    }
+
+    // Out by one rounded division: the double nearest to n, divided once.
+    #[tactic(auto, unfolding(crate::specs::Conversion::float_of))]
+    fn to_float(n: i64) -> f64
+        ensures { result ≡ float_of UNIT n }
+    {
+        double(n) / double(Self::UNIT as i64)
+    }
+
+    ghost laws: { Kinds.Coordinate UNIT LIMIT most };
+}
+
+// A latitude, in degrees.
+pub struct Latitude;
+
+impl Coordinate for Latitude {
+    ghost LIMIT = { latitude_limit };
+
+    const LIMIT: f64 = 90.0;
+
+    ghost UNIT = { degree };
+
+    const UNIT: u64 = DEGREE;
+
+    ghost most = { right_angle };
+
+    ghost laws = { Kinds.latitude };
+}
+
+// A longitude, in degrees.
+pub struct Longitude;
+
+impl Coordinate for Longitude {
+    ghost LIMIT = { longitude_limit };
+
+    const LIMIT: f64 = 180.0;
+
+    ghost UNIT = { degree };
+
+    const UNIT: u64 = Latitude::UNIT;
+
+    ghost most = { half_turn };
+
+    ghost laws = { Kinds.longitude };
+}
+
+// An easting or a northing, in metres.
+pub struct Plane;
+
+impl Coordinate for Plane {
+    ghost LIMIT = { plane_limit_float };
+
+    const LIMIT: f64 = 50_000_000.0;
+
+    ghost UNIT = { metre };
+
+    const UNIT: u64 = METRE;
+
+    ghost most = { plane_limit };
+
+    ghost laws = { Kinds.plane };
+}
 
 // x is neither NaN nor infinite.
+#[tactic(auto, using(crate::proofs::Bounds::finite_by_std))]
 pub fn is_finite(x: f64) -> bool
     ensures { result ≡ is_finite x }
 {
-    let infinity = 1.0 / 0.0;
-    if -infinity < x { x < infinity } else { false }
-}
-
-// x is finite, and from −limit to limit.
-fn is_within(limit: f64, x: f64) -> bool
-    ensures { result ≡ within_limit limit x }
-{
-    if x < -limit {
-        return false;
-    }
-    if limit < x {
-        return false;
-    }
-    is_finite(x)
-}
-
-// x is a latitude in degrees.
-pub fn is_latitude(x: f64) -> bool
-    ensures { result ≡ within_limit latitude_limit x }
-{
-    is_within(LATITUDE_LIMIT, x)
-}
-
-// x is a longitude in degrees.
-pub fn is_longitude(x: f64) -> bool
-    ensures { result ≡ within_limit longitude_limit x }
-{
-    is_within(LONGITUDE_LIMIT, x)
-}
-
-// x is an easting or a northing in metres.
-pub fn is_plane(x: f64) -> bool
-    ensures { result ≡ within_limit plane_limit_float x }
-{
-    is_within(PLANE_LIMIT, x)
+    x.is_finite()
 }
 
 // The weight of the sign in a double's bit pattern.
@@ -99,49 +147,12 @@ pub fn whole_units(unit: u64, x: f64) -> i64
     signed(bits >= SIGN, size)
 }
 
-// Degrees to mas: near(x · 3,600,000).
-pub fn degrees_to_mas(x: f64) -> i64
-    requires { within_limit longitude_limit x ≡ true }
-    ensures { result ≡ whole_of degree x }
-{
-    whole_units(DEGREE, x)
-}
-
-// Metres to cm: near(x · 100).
-pub fn metres_to_cm(x: f64) -> i64
-    requires { within_limit plane_limit_float x ≡ true }
-    ensures { result ≡ whole_of metre x }
-{
-    whole_units(METRE, x)
-}
-
-// The numbers that an i32 holds.
-const I32_LEAST: i64 = -2_147_483_648;
-
-const I32_MOST: i64 = 2_147_483_647;
-
 // The double nearest to n. One that an i32 holds is a double exactly, by one instruction.
 fn double(n: i64) -> f64
     ensures { result ≡ of_int binary64 n }
 {
-    if I32_LEAST <= n {
-        if n <= I32_MOST {
-            return (n as i32) as f64;
-        }
+    match i32::try_from(n) {
+        Ok(small) => f64::from(small),
+        Err(_) => std::num::nearest_i64_to_f64(n),
     }
-    std::num::nearest_i64_to_f64(n)
-}
-
-// Mas to degrees: the double nearest to n, divided once.
-pub fn mas_to_degrees(n: i64) -> f64
-    ensures { result ≡ float_of degree n }
-{
-    double(n) / MAS_IN_DEGREE
-}
-
-// Cm to metres: the double nearest to n, divided once.
-pub fn cm_to_metres(n: i64) -> f64
-    ensures { result ≡ float_of metre n }
-{
-    double(n) / CM_IN_METRE
 }
