@@ -9,9 +9,7 @@ use Rattle.units.specs.Spans.{on_plane}
 use Rattle.units.specs.Refusals.{out_of_limits, unless}
 use Rattle.units.specs.Answers.{answered}
 use Rattle.units.proofs.AnswerLaws.{answer_tells}
-use Rattle.cells.specs.declared.CellAnswer.{CellAnswer}
-use Rattle.cells.specs.declared.CellAnswer.TheVariants.{Cell, Refused}
-use Rattle.cells.specs.Cells.{accepted_side, cell_number, cell_refusal, cell_told, cell_of, told_of_cell}
+use Rattle.cells.specs.Cells.{CellAnswer, Cell, Refused, accepted_side, cell_number, cell_refusal, cell_told, cell_of, told_of_cell}
 use Rattle.cells.specs.Theorems.{InCell, AnswerHolds, CellAnswered, CellNumbers}
 use Rattle.cells.proofs.Sides.{side_some}
 use Rattle.cells.proofs.NumberLaws.{number_cell, number_is}

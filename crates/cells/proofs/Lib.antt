@@ -5,3 +5,4 @@ pub mod NumberLaws
 pub mod Inside
 pub mod AnswerLaws
 pub mod Witnesses
+pub mod Calls

@@ -24,6 +24,7 @@ use Rattle.proof_kit.proofs.Order.{
 }
 use Rattle.proof_kit.proofs.Ring.{ring, quote}
 use Rattle.proof_kit.proofs.Size.{abs_rem}
+use Rattle.std.specs.Int.{int_div_euclid}
 use Rattle.cells.specs.Cells.{not_above, cell_number}
 use Rattle.cells.specs.Theorems.{NumberGreatest, NumberUnique, InCell, OneCell, NumberCell, CellsTouch}
 use Rattle.cells.proofs.GreatestWhole.{greatest_whole_is}
@@ -89,47 +90,25 @@ module _ (side : ℕ) (some : 0 < side) where
 
   -- ---- by division
 
-  -- a whole number of sides, and less than a side more
-  and_less : (q r : ℤ) → pos 0 ≤ℤ r → r <ℤ pos side → InCell side q (q *ℤ pos side +ℤ r)
-  and_less q r low high =
-      let edge : ℤ = q *ℤ pos side in
-      held q (edge +ℤ r) (omega (order, parts-+ edge r)) (omega (order, parts-+ edge r, parts-+ edge (pos side)))
+  pub euclid_cell : (z : ℤ) → InCell side (int_div_euclid z (pos side)) z
+  euclid_cell (pos n) =
+      let e = div-add-mod' n side in
+      let m = mod-lt n some in
+      let edge : ℤ = pos (n / side) *ℤ pos side in
+      held (pos (n / side)) (pos n) (omega (order, arith)) (omega (order, arith, parts-+ edge (pos side)))
+  euclid_cell (negsuc n) =
+      let e = div-add-mod' n side in
+      let m = mod-lt n some in
+      let edge : ℤ = negsuc (n / side) *ℤ pos side in
+      held (negsuc (n / side)) (negsuc n)
+      (omega (order, arith, P-* (negsuc (n / side)) (pos side), N-* (negsuc (n / side)) (pos side)))
+      (omega (order, arith, parts-+ edge (pos side), P-* (negsuc (n / side)) (pos side), N-* (negsuc (n / side)) (pos side)))
 
-  turned : (q r : ℤ) → neg_ℤ q *ℤ pos side +ℤ neg_ℤ r ≡ neg_ℤ (q *ℤ pos side +ℤ r)
-  turned q r = ring (q ∷ r ∷ pos side ∷ []) (search quote depth 40 fits 20000) tt
-
-  division : (z : ℤ) → quot_z z (pos side) *ℤ pos side +ℤ rem_z z (pos side) ≡ z
-  division (pos n) = ap pos (div-add-mod' n side)
-  division (negsuc n) = turned (pos (suc n / side)) (pos (suc n % side)) ∙ ap (λ (k : ℕ). neg_ℤ (pos k)) (div-add-mod' (suc n) side)
-
-  -- one side less, and the remainder that much more
-  borrowed : (q r : ℤ) → (q -ℤ pos 1) *ℤ pos side +ℤ (r +ℤ pos side) ≡ q *ℤ pos side +ℤ r
-  borrowed q r = ring (q ∷ r ∷ pos side ∷ []) (search quote depth 40 fits 20000) tt
-
-  pub remainder_small : (z : ℤ) → nat_abs (rem_z z (pos side)) < side
-  remainder_small z = rw (abs_rem z (pos side)) (mod-lt (nat_abs z) some)
-
-  pub whole_cell : (z : ℤ) → pos 0 ≤ℤ rem_z z (pos side) → InCell side (quot_z z (pos side)) z
-  whole_cell z h =
-      let q : ℤ = quot_z z (pos side) in
-      let r : ℤ = rem_z z (pos side) in
-      subst (InCell side q) (division z) (and_less q r h (omega (order, nat_abs_parts r, remainder_small z)))
-
-  pub lower_cell : (z : ℤ) → rem_z z (pos side) <ℤ pos 0 → InCell side (quot_z z (pos side) -ℤ pos 1) z
-  lower_cell z h =
-      let q : ℤ = quot_z z (pos side) in
-      let r : ℤ = rem_z z (pos side) in
-      subst (InCell side (q -ℤ pos 1)) (borrowed q r ∙ division z)
-      (and_less (q -ℤ pos 1) (r +ℤ pos side)
-      (omega (order, nat_abs_parts r, remainder_small z, parts-+ r (pos side)))
-      (omega (order, parts-+ r (pos side))))
+  pub number_by_division : (z : ℤ) → int_div_euclid z (pos side) ≡ cell_number side z
+  number_by_division z = sym (number_is (int_div_euclid z (pos side)) z (euclid_cell z))
 
   some_cell : (z : ℤ) → (k : ℤ) × InCell side k z
-  some_cell z = at (≤ℤ-total (pos 0) (rem_z z (pos side)))
-    where
-      at : (pos 0 ≤ℤ rem_z z (pos side)) ⊎ (rem_z z (pos side) <ℤ pos 0) → (k : ℤ) × InCell side k z
-      at (inl h) = (quot_z z (pos side), whole_cell z h)
-      at (inr h) = (quot_z z (pos side) -ℤ pos 1, lower_cell z h)
+  some_cell z = (int_div_euclid z (pos side), euclid_cell z)
 
   -- the first coordinate of a cell, its last, and the one before its first
   pub first_in : (k : ℤ) → InCell side k (k *ℤ pos side)

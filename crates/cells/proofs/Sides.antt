@@ -11,16 +11,11 @@ use mir.Val.{SFits, to_z, of_z}
 use mir.Facts.{to_z-of_z}
 use Rattle.integers.proofs.Greatest.{not_true}
 use Rattle.units.specs.Spans.{same}
+use Rattle.units.specs.Refusals.{out_of_limits, unless}
 use Rattle.units.proofs.Spans.{either, same_equal}
-use Rattle.cells.specs.Cells.{accepted_side, top}
-
--- a side that is held as the bits of an accepted one is accepted
-pub side_by_bits : {side : ℤ} → SFits w64 side → {k : ℕ} → accepted_side (to_z w64 k) ≡ true → of_z w64 side ≡ k → accepted_side side ≡ true
-side_by_bits fits known e = ap accepted_side (sym (to_z-of_z fits) ∙ ap (to_z w64) e) ∙ known
-
--- and one that is held otherwise is another
-pub other_bits : (side : ℤ) {k : ℕ} → (of_z w64 side ≡ k → ⊥) → same side (pos k) ≡ false
-other_bits side {k} differs = not_true (same side (pos k)) (λ e. differs (ap (of_z w64) (same_equal side (pos k) e)))
+use Rattle.cells.specs.declared.Side.{Side}
+use Rattle.cells.specs.declared.Side.TheVariants.{Metres100, Kilometre, Kilometres10}
+use Rattle.cells.specs.Cells.{accepted_side, top, side_length}
 
 -- what holds of each of the three holds of an accepted side
 pub of_each_side : (P : ℤ → Type 0) → P (pos 10_000) → P (pos 100_000) → P (pos 1_000_000) → (side : ℤ) → accepted_side side ≡ true → P side
@@ -44,8 +39,14 @@ side_some = of_each_side (λ side. 0 < nat_abs side) (lit< tt) (lit< tt) (lit< t
 pub side_above_1 : (side : ℤ) → accepted_side side ≡ true → 1 < nat_abs side
 side_above_1 = of_each_side (λ side. 1 < nat_abs side) (lit< tt) (lit< tt) (lit< tt)
 
-pub side_most : (side : ℤ) → accepted_side side ≡ true → nat_abs side ≤ 1_000_000
-side_most = of_each_side (λ side. nat_abs side ≤ 1_000_000) (lit≤ tt) (lit≤ tt) (lit≤ tt)
+-- ---- the side of a length
 
-pub top_most : (side : ℤ) → accepted_side side ≡ true → top (nat_abs side) ≤ 500_000
-top_most = of_each_side (λ side. top (nat_abs side) ≤ 500_000) (lit≤ tt) (lit≤ tt) (lit≤ tt)
+pub some_long : (side : Side) → 0 < side_length side
+some_long Metres100 = lit< tt
+some_long Kilometre = lit< tt
+some_long Kilometres10 = lit< tt
+
+pub top_most : (side : Side) → top (side_length side) ≤ 500_000
+top_most Metres100 = lit≤ tt
+top_most Kilometre = lit≤ tt
+top_most Kilometres10 = lit≤ tt

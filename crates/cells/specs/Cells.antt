@@ -1,15 +1,17 @@
 -- Document 01, "Cells", with the cell number of document 02, b): the numbers of the cell that a position lies in, or the refusal. Sides and
 -- coordinates are in cm.
-use Rattle.std.specs.Prelude.{ℕ, ◌*◌, ◌/◌, Bool, ◌&&◌, ◌||◌, ℤ, pos, nat_abs, ◌-ℤ◌, ◌*ℤ◌}
+use Rattle.std.specs.Prelude.{ℕ, ◌≡◌, ◌*◌, ◌/◌, Bool, ◌&&◌, ◌||◌, ℤ, pos, nat_abs, ◌-ℤ◌, ◌*ℤ◌, Result, Ok, Err, IfOk}
 use Rattle.std.specs.Int.Signed.{le_z}
 use Rattle.integers.specs.Greatest.{greatest}
 use Rattle.units.specs.Units.{plane_limit}
 use Rattle.units.specs.Spans.{same, inside, on_plane}
-use Rattle.units.specs.Refusals.{out_of_limits, unless}
+use Rattle.units.specs.declared.refusals.Refusal.{Refusal}
+use Rattle.units.specs.Refusals.{out_of_limits, number, refusal_number, unless}
 use Rattle.units.specs.declared.answers.Told.{Told}
 use Rattle.units.specs.Answers.{accepted, refused, answered}
-use Rattle.cells.specs.declared.CellAnswer.{CellAnswer}
-use Rattle.cells.specs.declared.CellAnswer.TheVariants.{Cell, Refused}
+use Rattle.cells.specs.declared.Side.{Side}
+use Rattle.cells.specs.declared.Side.TheVariants.{Metres100, Kilometre, Kilometres10}
+use Rattle.cells.specs.declared.CellNumbers.{CellNumbers}
 
 -- ---- the number along an axis
 
@@ -32,6 +34,15 @@ cell_number side coordinate = greatest_whole (not_above side coordinate) (nat_ab
 unfoldable pub accepted_side : ℤ → Bool
 accepted_side side = same side (pos 10_000) || same side (pos 100_000) || same side (pos 1_000_000)
 
+abbrev pub side_length : Side → ℕ
+side_length Metres100 = 10_000
+side_length Kilometre = 100_000
+side_length Kilometres10 = 1_000_000
+
+-- the side of this length is given, and another length is refused 3
+abbrev pub IsSideOf : ℤ → Result Side Refusal → Type 0
+IsSideOf length given = (refusal_number given ≡ unless (accepted_side length) out_of_limits 0) × IfOk given (λ side. pos (side_length side) ≡ length)
+
 -- the number of the top cell along an axis: so many sides reach to the limit
 abbrev pub top : ℕ → ℕ
 top side = plane_limit / side
@@ -46,6 +57,15 @@ numbers_refusal side east north =
     unless (accepted_side side) out_of_limits (unless (numbered (nat_abs side) east north) out_of_limits 0)
 
 -- ---- the answer
+
+-- the cell's numbers along the two axes, or the refusal number alone
+pub data CellAnswer : Type 0 where
+  Cell : ℤ → ℤ → CellAnswer
+  Refused : ℕ → CellAnswer
+
+abbrev pub cell_answer : Result CellNumbers Refusal → CellAnswer
+cell_answer (Ok numbers) = Cell numbers.east numbers.north
+cell_answer (Err refusal) = Refused (number refusal)
 
 -- "Another side, or a position beyond ±5,000,000,000 cm: refused 3."
 unfoldable pub cell_refusal : ℤ → ℤ → ℤ → ℕ

@@ -4,8 +4,7 @@ use Rattle.std.specs.Prelude.{ℕ, zero, suc, ◌+◌, ◌*◌, ◌<◌, ◌≡�
 use Rattle.units.specs.Units.{plane_limit}
 use Rattle.units.specs.Spans.{within, same, inside, on_plane}
 use Rattle.units.specs.Refusals.{out_of_limits}
-use Rattle.cells.specs.declared.CellAnswer.TheVariants.{Cell, Refused}
-use Rattle.cells.specs.Cells.{accepted_side, cell_number, top, cell_of}
+use Rattle.cells.specs.Cells.{accepted_side, cell_number, top, Cell, Refused, cell_of}
 
 -- ---- along an axis: the cell number
 

@@ -1,19 +1,23 @@
 // The cell of a position: document 01, "Cells", with the cell number of document 02, b). Sides and coordinates are in cm.
 #![tactic(auto)]
 
-ghost use Rattle.std.specs.Prelude.{◌≡◌, true, pos, nat_abs};
-ghost use Rattle.cells.specs.Cells.{accepted_side, cell_number, top, numbers_refusal, cell_of, cell_told, told_of_cell};
+ghost use Rattle.std.specs.Prelude.{◌≡◌, pos};
+ghost use Rattle.units.specs.Refusals.{refusal_number, unless, out_of_limits};
+ghost use Rattle.cells.specs.Cells.{
+  side_length,
+  IsSideOf,
+  cell_number,
+  top,
+  numbered,
+  numbers_refusal,
+  cell_of,
+  cell_answer,
+  cell_told,
+  told_of_cell,
+};
 
-use units::answers::{Told, accepted, refused};
-use units::refusals::{OUT_OF_LIMITS, unless};
+use units::refusals::Refusal;
 use units::{PLANE_MOST, are_within, is_on_plane};
-
-// The cell's numbers along the two axes, or the refusal number alone.
-#[derive(Clone, Copy)]
-pub enum CellAnswer {
-    Cell { east: i64, north: i64 },
-    Refused(u8),
-}
 
 // The sides of 100 m, 1 km and 10 km.
 pub const SIDE_100_M: i64 = 10_000;
@@ -22,75 +26,89 @@ pub const SIDE_1_KM: i64 = 100_000;
 
 pub const SIDE_10_KM: i64 = 1_000_000;
 
-// Whether cells may have this side.
-pub fn is_side(side: i64) -> bool
-    ensures { result ≡ accepted_side side }
-{
-    match side {
-        SIDE_100_M | SIDE_1_KM | SIDE_10_KM => true,
-        _ => false,
+// The side of a cell.
+#[derive(Clone, Copy, Debug, PartialEq, Eq)]
+pub enum Side {
+    Metres100,
+    Kilometre,
+    Kilometres10,
+}
+
+// Another length is refused.
+impl TryFrom<i64> for Side {
+    type Error = Refusal;
+
+    ghost try_from_gives = { IsSideOf };
+
+    #[tactic(auto, unfolding(crate::specs::Cells::accepted_side, units::specs::Spans::same, units::specs::Spans::within))]
+    fn try_from(length: i64) -> Result<Side, Refusal> {
+        match length {
+            SIDE_100_M => Ok(Side::Metres100),
+            SIDE_1_KM => Ok(Side::Kilometre),
+            SIDE_10_KM => Ok(Side::Kilometres10),
+            _ => Err(Refusal::OutOfLimits),
+        }
     }
 }
 
-// The number, along its axis, of the cell that a coordinate lies in. Division goes towards 0: where that leaves a
-// negative remainder, the quotient times the side is above the coordinate, and the cell is the one before.
-pub fn cell_number(side: i64, coordinate: i64) -> i64
-    requires { accepted_side side ≡ true }
-    ensures { result ≡ cell_number (nat_abs side) coordinate }
-{
-    let whole = coordinate / side;
-    if coordinate % side < 0 {
-        whole - 1
-    } else {
-        whole
+impl Side {
+    pub fn length(self) -> i64
+        ensures { result ≡ pos (side_length self) }
+    {
+        match self {
+            Side::Metres100 => SIDE_100_M,
+            Side::Kilometre => SIDE_1_KM,
+            Side::Kilometres10 => SIDE_10_KM,
+        }
+    }
+
+    #[tactic(auto, using(crate::proofs::Calls::by_division))]
+    // The number, along its axis, of the cell that a coordinate lies in.
+    pub fn cell_number(self, coordinate: i64) -> i64
+        ensures { result ≡ cell_number (side_length self) coordinate }
+    {
+        coordinate.div_euclid(self.length())
+    }
+
+    // The number of the top cell along an axis.
+    pub fn top_number(self) -> i64
+        ensures { result ≡ pos (top (side_length self)) }
+    {
+        PLANE_MOST / self.length()
+    }
+
+    // Refuses numbers that no cell of this side has.
+    pub fn check_numbers(self, east: i64, north: i64) -> Result<(), Refusal>
+        ensures { refusal_number result ≡ unless (numbered (side_length self) east north) out_of_limits 0 }
+    {
+        let top = self.top_number();
+        Refusal::OutOfLimits.unless(are_within(-top, top, east, -top, top, north))
     }
 }
 
-// The number of the top cell along an axis.
-pub fn top_number(side: i64) -> i64
-    requires { accepted_side side ≡ true }
-    ensures { result ≡ pos (top (nat_abs side)) }
-{
-    PLANE_MOST / side
+// The cell's numbers along the two axes.
+#[derive(Clone, Copy, Debug, PartialEq, Eq)]
+pub struct CellNumbers {
+    pub east: i64,
+    pub north: i64,
 }
 
-// The refusal of a side or of numbers that no cell has; 0 is none.
-pub fn numbers_refusal(side: i64, east: i64, north: i64) -> u8
-    ensures { result ≡ numbers_refusal side east north }
+// Refuses a side that cells do not have, and numbers that no cell has.
+pub fn check_numbers(side: i64, east: i64, north: i64) -> Result<(), Refusal>
+    ensures { refusal_number result ≡ numbers_refusal side east north }
 {
-    if !is_side(side) {
-        return OUT_OF_LIMITS;
-    }
-    let top = top_number(side);
-    unless(
-        are_within(-top, top, east, -top, top, north),
-        OUT_OF_LIMITS,
-        0,
-    )
+    Side::try_from(side)?.check_numbers(east, north)
 }
 
 // Any side, any position: the customer's call.
-pub fn cell(side: i64, easting: i64, northing: i64) -> CellAnswer
-    ensures { (result ≡ cell_of side easting northing) × (cell_told result ≡ told_of_cell side easting northing) }
+pub fn cell(side: i64, easting: i64, northing: i64) -> Result<CellNumbers, Refusal>
+    ensures { let answer = cell_answer result in
+        (answer ≡ cell_of side easting northing) × (cell_told answer ≡ told_of_cell side easting northing) }
 {
-    if !is_side(side) {
-        return CellAnswer::Refused(OUT_OF_LIMITS);
-    }
-    if !is_on_plane(easting, northing) {
-        return CellAnswer::Refused(OUT_OF_LIMITS);
-    }
-    CellAnswer::Cell {
-        east: cell_number(side, easting),
-        north: cell_number(side, northing),
-    }
-}
-
-// What an answer tells.
-pub fn cell_told(answer: CellAnswer) -> Told
-    ensures { result ≡ cell_told answer }
-{
-    match answer {
-        CellAnswer::Cell { east, north } => accepted(east, north),
-        CellAnswer::Refused(number) => refused(number),
-    }
+    let side = Side::try_from(side)?;
+    Refusal::OutOfLimits.unless(is_on_plane(easting, northing))?;
+    Ok(CellNumbers {
+        east: side.cell_number(easting),
+        north: side.cell_number(northing),
+    })
 }
