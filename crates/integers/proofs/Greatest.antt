@@ -9,10 +9,7 @@ use Prim.Native.Nat.{ℕ, zero, suc, ◌-◌, ◌/◌, ◌<◌, ◌≤◌, zero-
 use native.Mathlib.Nat.{le_refl, le-suc, le_trans, eq-or-lt_of_le, le_of_suc-le-suc}
 use native.Mathlib.Omega.{arith}
 use Rattle.integers.specs.Greatest.{greatest}
-
--- up to n the test stays false once it is false
-abbrev pub Falls : (ℕ → Bool) → ℕ → Type 0
-Falls test n = (a b : ℕ) → a ≤ b → b ≤ n → test b ≡ true → test a ≡ true
+use Rattle.integers.specs.InnerSearch.{Falls}
 
 pub not_both : {b : Bool} → b ≡ true → b ≡ false → ⊥
 not_both p q = let z : ◌≡◌ {A = Bool} true false = sym p ∙ q in subst (λ (b : Bool). cond b ℕ ⊥) z 0

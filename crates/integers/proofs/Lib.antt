@@ -1,7 +1,7 @@
 pub mod Signs
 pub mod Rounding
 pub mod Greatest
-pub mod Search
+pub mod Halving
 pub mod Squares
 pub mod Digits
 pub mod Meanings

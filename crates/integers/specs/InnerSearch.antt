@@ -2,6 +2,15 @@
 use Rattle.std.specs.Prelude.{◌≡◌, Bool, true, ◌&&◌, ℕ, ◌*◌, ◌≤◌, leb}
 use Rattle.integers.specs.Greatest.{greatest}
 
+-- up to n the test stays false once it is false
+abbrev pub Falls : (ℕ → Bool) → ℕ → Type 0
+Falls test n = (a b : ℕ) → a ≤ b → b ≤ n → test b ≡ true → test a ≡ true
+
+-- a test that 0 passes and that stays false once it is false
+pub record Threshold (test : ℕ → Bool) (n : ℕ) : Type 0 where
+  pub zero_passes : test 0 ≡ true
+  pub falls : Falls test n
+
 -- Whether the greatest number that passes lies from low to high.
 unfoldable pub bracketed : (ℕ → Bool) → ℕ → ℕ → ℕ → Bool
 bracketed test n low high = leb low (greatest test n) && leb (greatest test n) high

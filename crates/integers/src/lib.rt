@@ -1,15 +1,12 @@
 // The two words of document 01 on whole numbers: rounded division and the integer root.
 #![tactic(auto)]
 
-ghost use Rattle.std.specs.Prelude.{◌≡◌, ◌+◌, ◌-◌, ◌/◌, ◌<◌, ◌^◌, nat_abs};
+ghost use Rattle.std.specs.Prelude.{◌≡◌, ◌+◌, ◌-◌, ◌/◌, ◌<◌, ◌^◌, [], ◌∷◌, nat_abs};
 ghost use Rattle.integers.specs.Near.{near, nearest, signed};
 ghost use Rattle.integers.specs.Root.{root};
 ghost use Rattle.integers.specs.Rounds.{next_digit};
 
-// A search about an estimate: the margin that is tried after another is WIDENING times it and WIDENED_BY more.
-pub const WIDENING: u64 = 16;
-
-pub const WIDENED_BY: u64 = 4;
+pub mod search;
 
 // The size of n; that of the least i64 is 2^63, which a u64 holds.
 pub fn magnitude(n: i64) -> u64
@@ -35,6 +32,7 @@ pub fn signed(negative: bool, size: u64) -> i64
 }
 
 // near(n/d) for n not negative.
+#[tactic(auto, using(crate::proofs::Rounding::nearest_halved))]
 pub fn nearest(n: u64, d: u64) -> u64
     requires { (0 < d) × (n + d / 2 < 2 ^ 64) }
     ensures { result ≡ nearest n d }
@@ -43,6 +41,7 @@ pub fn nearest(n: u64, d: u64) -> u64
 }
 
 // near(n/d).
+#[tactic(auto, using(crate::proofs::Rounding::nearest_le), unfolding(crate::specs::Near::near))]
 pub fn near(n: i64, d: u64) -> i64
     requires { (0 < d) × (nat_abs n + d / 2 < 2 ^ 63) }
     ensures { result ≡ near n d }
@@ -84,13 +83,6 @@ pub fn root(n: u64) -> u64
     r
 }
 
-// Two roots.
-#[derive(Clone, Copy)]
-pub struct RootPair {
-    pub first: u64,
-    pub second: u64,
-}
-
 // What `root` holds of the digits taken, but for the trial square, which is square + r + bit.
 #[derive(Clone, Copy)]
 struct TakenDigits {
@@ -99,6 +91,7 @@ struct TakenDigits {
 }
 
 // One round for n: the next digit is taken where the trial square is at most n.
+#[tactic(auto, using(std::proofs::lemmas::Bool::Decides::nat_tests), unfolding(crate::specs::Rounds::next_digit))]
 fn next_digit(n: u64, bit: u64, d: TakenDigits) -> TakenDigits
     requires { d.square + d.r + bit < 2 ^ 64 }
     ensures { result ≡ next_digit n bit d }
@@ -120,8 +113,8 @@ fn next_digit(n: u64, bit: u64, d: TakenDigits) -> TakenDigits
 
 // root(n) and root(m), digit by digit as `root` finds one, in one loop: neither waits for the other's
 // comparisons. The larger number says how many rounds there are.
-pub fn roots(n: u64, m: u64) -> RootPair
-    ensures { (result.first ≡ root n) × (result.second ≡ root m) }
+pub fn roots(n: u64, m: u64) -> [u64; 2]
+    ensures { result ≡ root n ∷ root m ∷ [] }
 {
     let larger = if n < m { m } else { n };
     let mut bit = if larger < 1u64 << 60 {
@@ -136,8 +129,5 @@ pub fn roots(n: u64, m: u64) -> RootPair
         second = next_digit(m, bit, second);
         bit = bit >> 2;
     }
-    RootPair {
-        first: first.r,
-        second: second.r,
-    }
+    [first.r, second.r]
 }
