@@ -2,7 +2,7 @@
 -- the angle is negative; past 180° that size is taken from 360°, which turns the sine's sign; past 90° from 180°, which turns the cosine's.
 -- Assumes nothing.
 use mathlib.Core.Path.{◌≡◌, refl, sym, ap, ◌∙◌}
-use mathlib.Core.Bool.{Bool, true, false, not}
+use mathlib.Core.Bool.{Bool, true, false, not, beq}
 use mathlib.Core.List.{[], ◌∷◌}
 use mathlib.Core.Logic.{◌⊎◌, inl, inr}
 use Prim.Native.Nat.{ℕ, suc, ◌+◌, ◌-◌, ◌%◌, ◌<◌, ◌≤◌}
@@ -18,7 +18,7 @@ use Rattle.proof_kit.proofs.Size.{within, abs_neg}
 use Rattle.integers.specs.Near.{signed}
 use Rattle.units.specs.Units.{right_angle, half_turn, full_turn}
 use Rattle.trig.specs.Sine.{first_quarter, first_half, one_turn, sine, cosine}
-use Rattle.trig.specs.InnerFolding.{differing, Folds}
+use Rattle.trig.specs.InnerFolding.{Folds}
 use Rattle.trig.proofs.Symmetry.{half_low, half_high, turn_low, turn_high, sine_first, cosine_first}
 use Rattle.trig.proofs.Symmetry.{sine_full_turn, sine_quarter_turn, cosine_quarter_turn, cosine_even}
 
@@ -99,16 +99,18 @@ turned true x = neg_ℤ-neg_ℤ (pos x)
 turned false x = refl
 
 -- what the sine of the size is, with the angle's sign
-sine_signed : (z : ℤ) (b : Bool) (x : ℕ) → one_turn (nat_abs z % full_turn) ≡ signed b x → sine z ≡ signed (differing (lt_z z (pos 0)) b) x
+sine_signed : (z : ℤ) (b : Bool) (x : ℕ) → one_turn (nat_abs z % full_turn) ≡ signed b x → sine z ≡ signed (not (beq (lt_z z (pos 0)) b)) x
 unfolding sine
-sine_signed (pos m) b x e = rw (leb-suc-zero m) e
-sine_signed (negsuc m) b x e = ap neg_ℤ e ∙ turned b x
+sine_signed (pos m) true x e = rw (leb-suc-zero m) e
+sine_signed (pos m) false x e = rw (leb-suc-zero m) e
+sine_signed (negsuc m) true x e = ap neg_ℤ e ∙ turned true x
+sine_signed (negsuc m) false x e = ap neg_ℤ e ∙ turned false x
 
 pub folds :
     (z : ℤ) →
     let size = nat_abs z % full_turn in
     let half = folding full_turn size in
-    Folds z (folding half_turn half) (differing (lt_z z (pos 0)) (ltb half_turn size)) (ltb right_angle half)
+    Folds z (folding half_turn half) (not (beq (lt_z z (pos 0)) (ltb half_turn size))) (ltb right_angle half)
 folds z =
     let size : ℕ = nat_abs z % full_turn in
     let below : size < full_turn = mod-lt (nat_abs z) (lit< tt) in

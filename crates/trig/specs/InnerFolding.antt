@@ -1,13 +1,8 @@
 -- Inner: an angle folded to one from 0 to 90°.
-use Rattle.std.specs.Prelude.{◌≡◌, Bool, true, false, not, ℕ, ◌-◌, ◌≤◌, ℤ}
+use Rattle.std.specs.Prelude.{◌≡◌, Bool, ℕ, ◌-◌, ◌≤◌, ℤ}
 use Rattle.integers.specs.Near.{signed}
 use Rattle.units.specs.Units.{right_angle}
 use Rattle.trig.specs.Sine.{first_quarter, sine, cosine}
-
--- one is true and the other is not
-abbrev pub differing : Bool → Bool → Bool
-differing true b = not b
-differing false b = b
 
 -- θ has the sine and the cosine of `folded`, with these signs.
 pub record Folds (θ : ℤ) (folded : ℕ) (below behind : Bool) : Type 0 where

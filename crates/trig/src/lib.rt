@@ -1,33 +1,34 @@
 // Sine and cosine of documents 01 and 02, g), on whole numbers: angles in milliarcseconds (mas), sines in
-// billionths. Every function takes the table lent: see sine_table::table.
+// billionths. Every function takes the table lent: see SineTable::new.
 #![tactic(auto)]
 
 ghost use Rattle.std.specs.Prelude.{◌≡◌, ◌+◌, ◌-◌, ◌*◌, ◌/◌, ◌<◌, ◌≤◌, ◌^◌, nat_abs, ◌-ℤ◌};
-ghost use Rattle.sine_table.specs.Table.{IsTable, entry};
+ghost use Rattle.sine_table.specs.Table.{entry};
 ghost use Rattle.units.specs.Units.{unit, minute, right_angle};
 ghost use Rattle.trig.specs.Sine.{quarter_minutes, first_quarter, sine, cosine};
 ghost use Rattle.trig.specs.InnerCorrection.{most_rise, most_product, whole_correction, rise_of};
-ghost use Rattle.trig.specs.InnerFolding.{differing, Folds};
+ghost use Rattle.trig.specs.InnerFolding.{Folds};
 ghost use Rattle.trig.specs.InnerLines.{line_error, minute_error};
 
 use integers::{excess, magnitude, signed};
-use sine_table::Table;
+use sine_table::SineTable;
 use units::{FULL_TURN, HALF_TURN, LATITUDE_MOST, MINUTE, RIGHT_ANGLE, UNIT_DIVISOR};
 
 // The minutes from 0 to 90°.
 pub const QUARTER_MINUTES: u64 = 5_400;
 
 // T[k].
-pub fn minute_sine(t: &Table, k: u64) -> u64
-    requires { IsTable t.now × (k ≤ quarter_minutes) }
+pub fn minute_sine(t: &SineTable, k: u64) -> u64
+    requires { k ≤ quarter_minutes }
     ensures { result ≡ entry k }
 {
-    t[k as usize] as u64
+    t.sines[k as usize] as u64
 }
 
 // T[k+1] − T[k].
-pub fn rise(t: &Table, k: u64) -> u64
-    requires { IsTable t.now × (k < quarter_minutes) }
+#[tactic(auto, using(sine_table::proofs::Laws::rises), unfolding(crate::specs::InnerCorrection::rise_of))]
+pub fn rise(t: &SineTable, k: u64) -> u64
+    requires { k < quarter_minutes }
     ensures { result ≡ rise_of k }
 {
     minute_sine(t, k + 1) - minute_sine(t, k)
@@ -44,6 +45,7 @@ const PART: u64 = 32_768;
 const REST: u64 = 457_763_671_875;
 
 // That correction in 60,000ths, rounded down. `product` is r·(60,000 − r).
+#[tactic(auto, using(crate::proofs::Fraction::two_steps), unfolding(crate::specs::InnerCorrection::whole_correction))]
 fn correction(low: u64, product: u64) -> u64
     requires { (low ≤ unit) × (product ≤ most_product) }
     ensures { result ≡ whole_correction low product }
@@ -57,6 +59,7 @@ const HALF_MINUTE: u64 = 30_000;
 
 // The sine r mas past a minute, from T[k], T[k+1] − T[k] and r·(60,000 − r). It is never above T[k+1]
 // (AtMostNext), so the two need not be compared.
+#[tactic(auto, using(crate::proofs::Fraction::correction_small))]
 fn between(low: u64, rise: u64, r: u64, product: u64) -> u64
     requires { (low ≤ unit) × (rise ≤ most_rise) × (r ≤ minute) × (product ≤ most_product) }
     ensures { result ≡ low + (rise * r + 30_000 + whole_correction low product) / minute }
@@ -65,8 +68,9 @@ fn between(low: u64, rise: u64, r: u64, product: u64) -> u64
 }
 
 // The sine of an angle from 0 to 90°.
-pub fn first_quarter(t: &Table, theta: u64) -> u64
-    requires { IsTable t.now × (theta ≤ right_angle) }
+#[tactic(auto, using(sine_table::proofs::Laws::entry_at_most, crate::proofs::Fraction::rise_small, crate::proofs::Fraction::product_small))]
+pub fn first_quarter(t: &SineTable, theta: u64) -> u64
+    requires { theta ≤ right_angle }
     ensures { result ≡ first_quarter theta }
 {
     let k = theta / MINUTE;
@@ -79,7 +83,7 @@ pub fn first_quarter(t: &Table, theta: u64) -> u64
 }
 
 // The sine and the cosine of one angle from 0 to 90°.
-#[derive(Clone, Copy)]
+#[derive(Clone, Copy, Debug, PartialEq, Eq)]
 pub struct QuarterPair {
     pub sine: u64,
     pub cosine: u64,
@@ -87,8 +91,9 @@ pub struct QuarterPair {
 
 // Those of the angle r mas past minute k. 90° less it is 60,000 − r mas past minute 5399 − k, so both have one
 // product.
-pub fn quarter_pair(t: &Table, k: u64, r: u64) -> QuarterPair
-    requires { IsTable t.now × (k < quarter_minutes) × (r < minute) }
+#[tactic(auto, using(sine_table::proofs::Laws::entry_at_most, crate::proofs::Fraction::rise_small, crate::proofs::Fraction::product_small))]
+pub fn quarter_pair(t: &SineTable, k: u64, r: u64) -> QuarterPair
+    requires { (k < quarter_minutes) × (r < minute) }
     ensures { (result.sine ≡ first_quarter (k * minute + r)) × (result.cosine ≡ first_quarter (right_angle - (k * minute + r))) }
 {
     let before = QUARTER_MINUTES - 1 - k;
@@ -100,7 +105,7 @@ pub fn quarter_pair(t: &Table, k: u64, r: u64) -> QuarterPair
 }
 
 // The angle from 0 to 90° that has the sine and the cosine of any angle, but for their signs.
-#[derive(Clone, Copy)]
+#[derive(Clone, Copy, Debug, PartialEq, Eq)]
 struct Fold {
     theta: u64,
     // the sine is negative
@@ -109,14 +114,8 @@ struct Fold {
     behind: bool,
 }
 
-// Whether one of two is true and the other is not.
-fn differ(a: bool, b: bool) -> bool
-    ensures { result ≡ differing a b }
-{
-    if a { !b } else { b }
-}
-
 // The angle folded at 180° and at 90°: each time the smaller of what it has passed and what is left.
+#[tactic(auto, using(crate::proofs::Folding::folds))]
 fn folded(theta: i64) -> Fold
     ensures { Folds theta result.theta result.below result.behind }
 {
@@ -124,14 +123,14 @@ fn folded(theta: i64) -> Fold
     let half = size - excess(size, FULL_TURN - size);
     Fold {
         theta: half - excess(half, HALF_TURN - half),
-        below: differ(theta < 0, HALF_TURN < size),
+        below: (theta < 0) != (HALF_TURN < size),
         behind: RIGHT_ANGLE < half,
     }
 }
 
 // The sine of any angle.
-pub fn sine(t: &Table, theta: i64) -> i64
-    requires { IsTable t.now }
+#[tactic(auto, using(crate::proofs::Quarter::quarter_at_most))]
+pub fn sine(t: &SineTable, theta: i64) -> i64
     ensures { result ≡ sine theta }
 {
     let to = folded(theta);
@@ -139,23 +138,25 @@ pub fn sine(t: &Table, theta: i64) -> i64
 }
 
 // The cosine of any angle that leaves room to be taken from 90°.
-pub fn cosine(t: &Table, theta: i64) -> i64
-    requires { IsTable t.now × (nat_abs theta < 2 ^ 62) }
+#[tactic(auto, unfolding(crate::specs::Sine::cosine))]
+pub fn cosine(t: &SineTable, theta: i64) -> i64
+    requires { nat_abs theta < 2 ^ 62 }
     ensures { result ≡ cosine theta }
 {
     sine(t, LATITUDE_MOST - theta)
 }
 
 // The sine and the cosine of one angle.
-#[derive(Clone, Copy)]
+#[derive(Clone, Copy, Debug, PartialEq, Eq)]
 pub struct SineCosine {
     pub sine: i64,
     pub cosine: i64,
 }
 
 // Those of an angle from 0 to 90°. 90° itself has no minute after it.
-fn folded_pair(t: &Table, theta: u64) -> QuarterPair
-    requires { IsTable t.now × (theta ≤ right_angle) }
+#[tactic(auto, using(crate::proofs::Quarter::quarter_zero, crate::proofs::Quarter::quarter_right))]
+fn folded_pair(t: &SineTable, theta: u64) -> QuarterPair
+    requires { theta ≤ right_angle }
     ensures { (result.sine ≡ first_quarter theta) × (result.cosine ≡ first_quarter (right_angle - theta)) }
 {
     if theta == RIGHT_ANGLE {
@@ -168,8 +169,8 @@ fn folded_pair(t: &Table, theta: u64) -> QuarterPair
 }
 
 // Those of any angle.
-pub fn sine_cosine(t: &Table, theta: i64) -> SineCosine
-    requires { IsTable t.now }
+#[tactic(auto, using(crate::proofs::Quarter::quarter_at_most))]
+pub fn sine_cosine(t: &SineTable, theta: i64) -> SineCosine
     ensures { (result.sine ≡ sine theta) × (result.cosine ≡ cosine theta) }
 {
     let to = folded(theta);
@@ -181,8 +182,9 @@ pub fn sine_cosine(t: &Table, theta: i64) -> SineCosine
 }
 
 // The straight line between two minutes from 0 to 90°: not above the sine, and below it by line-error at most.
-fn quarter_line(t: &Table, theta: u64) -> u64
-    requires { IsTable t.now × (theta ≤ right_angle) }
+#[tactic(auto, using(crate::proofs::Fraction::near_line, crate::proofs::Fraction::rise_product, crate::proofs::Quarter::quarter_minute, sine_table::proofs::Laws::entry_at_most))]
+fn quarter_line(t: &SineTable, theta: u64) -> u64
+    requires { theta ≤ right_angle }
     ensures { (result ≤ first_quarter theta) × (first_quarter theta ≤ result + line_error) }
 {
     let k = theta / MINUTE;
@@ -194,8 +196,8 @@ fn quarter_line(t: &Table, theta: u64) -> u64
 }
 
 // The sine of any angle to within line-error, by the straight line.
-pub fn sine_by_line(t: &Table, theta: i64) -> i64
-    requires { IsTable t.now }
+#[tactic(auto, using(crate::proofs::Quarter::quarter_at_most))]
+pub fn sine_by_line(t: &SineTable, theta: i64) -> i64
     ensures { nat_abs (result -ℤ sine theta) ≤ line_error }
 {
     let to = folded(theta);
@@ -203,8 +205,8 @@ pub fn sine_by_line(t: &Table, theta: i64) -> i64
 }
 
 // The sine of any angle to within minute-error, by the whole minute before it.
-pub fn sine_by_minute(t: &Table, theta: i64) -> i64
-    requires { IsTable t.now }
+#[tactic(auto, using(crate::proofs::Quarter::quarter_at_most, crate::proofs::Fraction::near_minute))]
+pub fn sine_by_minute(t: &SineTable, theta: i64) -> i64
     ensures { nat_abs (result -ℤ sine theta) ≤ minute_error }
 {
     let to = folded(theta);
