@@ -52,7 +52,10 @@ pub fn near(n: i64, d: u64) -> i64
 // root(n), by its binary digits from the highest on. A round tries one digit; `bit`, the square of what that
 // digit is worth, is at most 2^62 and loses two places in each round, so there are at most 32 rounds. Numbers
 // below 2^60 need only 30. A contract does not say how an answer is found: scripts/root-operations reads this
-// body and those of `roots` and `next_digit` for anything but shifts, additions and comparisons.
+// body and those of `roots` and `next_digit` for anything but shifts, additions and comparisons. So the loops
+// go by `bit`, which is shifted and not counted, and the larger of two numbers is found by `if`. One function
+// over an array of numbers was tried for both: for one number it takes a third longer, since it works out
+// the trial square anew in each round.
 pub fn root(n: u64) -> u64
     ensures { result ≡ root n }
 {

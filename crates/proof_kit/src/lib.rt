@@ -19,7 +19,7 @@ fn nearest(x: i64, d: i64) -> i64
     (x + d / 2) / d
 }
 
-// The size of x.
+// The size of x. By hand, since it is what the kit's laws of a signed `if` are tried on: `abs` would try none of them.
 fn magnitude(x: i64) -> i64
     requires { nat_abs x ≤ 9_223_372_036_854_775_807 }
     ensures { result ≡ pos (nat_abs x) }

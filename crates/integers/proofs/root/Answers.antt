@@ -12,10 +12,10 @@ loop-bit-init c =
     ]
 
 pub loop-bit-preserved-then-n-trial : goal.loop-bit-preserved-then-n-trial
-loop-bit-preserved-then-n-trial c = next_not_taken _ _ _ _ _ c.loop-bit-test.true c.if-n-trial.true c.loop-bit.invariant
+loop-bit-preserved-then-n-trial c = next_not_taken _ _ _ _ _ (omega arith) c.if-n-trial.true c.loop-bit.invariant
 
 pub loop-bit-preserved : goal.loop-bit-preserved
-loop-bit-preserved c = next_taken _ _ _ _ _ c.loop-bit-test.true c.if-n-trial.false c.loop-bit.invariant
+loop-bit-preserved c = next_taken _ _ _ _ _ (omega arith) c.if-n-trial.false c.loop-bit.invariant
 
 pub returns : goal.returns
 returns c = all_tried _ _ _ _ _ (omega arith) c.loop-bit.invariant
