@@ -1,10 +1,18 @@
 -- How far an answer in whole numbers is from the one expected, and whether it is right: document 01, "Run and compared, within 1 m: the
 -- example of document 001; within 2 m: document 004's examples".
-use Rattle.std.specs.Prelude.{ℕ, ◌*◌, min, Bool, ◌&&◌, leb, eqb, ℤ, nat_abs, ◌-ℤ◌}
+use Rattle.std.specs.Prelude.{ℕ, ◌*◌, min, Bool, ◌&&◌, leb, eqb, ℤ, nat_abs, ◌-ℤ◌, Result, Ok, Err}
 use Rattle.integers.specs.Near.{nearest}
 use Rattle.units.specs.Units.{unit}
 use Rattle.units.specs.declared.answers.Told.{Told}
+use Rattle.units.specs.declared.refusals.Refusal.{Refusal}
+use Rattle.units.specs.Refusals.{number}
+use Rattle.units.specs.Answers.{accepted, refused}
 use Rattle.gaps.specs.declared.Gaps.{Gaps}
+
+-- what an answer tells: its two values, or its refusal number
+abbrev pub told : Result (ℤ × ℤ) Refusal → Told
+told (Ok values) = accepted values.0 values.1
+told (Err refusal) = refused (number refusal)
 
 -- the sizes of the differences, in the answers' own units
 abbrev pub gaps_of : Told → Told → Gaps

@@ -2,41 +2,33 @@
 // and the numbers that it says it is off by.
 #![tactic(auto)]
 
-ghost use Rattle.std.specs.Prelude.{◌≡◌, ◌<◌, ◌≤◌, nat_abs, ◌-ℤ◌};
+ghost use Rattle.std.specs.Prelude.{◌≡◌, ◌<◌, ◌≤◌, eqb};
 ghost use Rattle.units.specs.Units.{unit};
-ghost use Rattle.gaps.specs.InnerGaps.{gaps_of, cap, capped, part, on_ground, is_right};
+ghost use Rattle.gaps.specs.InnerGaps.{told, gaps_of, part, on_ground, is_right};
 
-use integers::{excess, magnitude, nearest};
+use integers::{magnitude, nearest};
 use units::UNIT_DIVISOR;
-use units::answers::Told;
+use units::refusals::Refusal;
+
+// An answer in whole numbers: latitude and longitude, easting and northing, or the two numbers of a cell.
+pub type Answer = Result<(i64, i64), Refusal>;
 
 // The sizes of the differences of two pairs of values.
-#[derive(Clone, Copy)]
+#[derive(Clone, Copy, Debug, PartialEq, Eq)]
 pub struct Gaps {
     pub first: u64,
     pub second: u64,
 }
 
-// The size of x − y: where the signs differ the sizes add up, else one is taken from the other.
-pub fn gap(x: i64, y: i64) -> u64
-    ensures { result ≡ nat_abs (x -ℤ y) }
+// The gaps of two answers; one that is refused counts as 0, 0.
+pub fn gaps_of(found: Answer, right: Answer) -> Gaps
+    ensures { result ≡ gaps_of (told found) (told right) }
 {
-    let m = magnitude(x);
-    let n = magnitude(y);
-    let x_below = x < 0;
-    let y_below = y < 0;
-    if x_below == y_below {
-        return excess(m, n) + excess(n, m);
-    }
-    m + n
-}
-
-pub fn gaps_of(found: Told, right: Told) -> Gaps
-    ensures { result ≡ gaps_of found right }
-{
+    let found = found.unwrap_or((0, 0));
+    let right = right.unwrap_or((0, 0));
     Gaps {
-        first: gap(found.first, right.first),
-        second: gap(found.second, right.second),
+        first: found.0.abs_diff(right.0),
+        second: found.1.abs_diff(right.1),
     }
 }
 
@@ -46,21 +38,12 @@ const CAP: u64 = 2_000_000_000;
 // One radian, in mas.
 const RADIAN: u64 = 206_264_806;
 
-fn cut(n: u64) -> u64
-    ensures { (result ≡ capped n) × (result ≤ cap) }
-{
-    if CAP < n {
-        return CAP;
-    }
-    n
-}
-
 // near(x·y/d), of x and y cut.
 fn part(x: u64, y: u64, d: u64) -> u64
     requires { (0 < d) × (d ≤ unit) }
     ensures { result ≡ part x y d }
 {
-    nearest(cut(x) * cut(y), d)
+    nearest(x.min(CAP) * y.min(CAP), d)
 }
 
 // Gaps of latitude and longitude as lengths in cm on a sphere of this radius, at a latitude with this cosine.
@@ -78,15 +61,16 @@ pub fn on_ground(radius: i64, cosine: i64, off: Gaps) -> Gaps
     }
 }
 
-// Whether an answer that is off by this is the one expected, with at most so much in either value.
-pub fn is_right(found: Told, right: Told, off: Gaps, most: u64) -> bool
-    ensures { result ≡ is_right found right off most }
+// Whether both are accepted, or both refused for one reason.
+fn are_refused_alike(found: Answer, right: Answer) -> bool
+    ensures { result ≡ eqb (told found).refusal (told right).refusal }
 {
-    if found.refusal != right.refusal {
-        return false;
-    }
-    if most < off.first {
-        return false;
-    }
-    off.second <= most
+    found.err() == right.err()
+}
+
+// Whether an answer that is off by this is the one expected, with at most so much in either value.
+pub fn is_right(found: Answer, right: Answer, off: Gaps, most: u64) -> bool
+    ensures { result ≡ is_right (told found) (told right) off most }
+{
+    are_refused_alike(found, right) && off.first <= most && off.second <= most
 }
