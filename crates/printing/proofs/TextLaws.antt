@@ -1,75 +1,62 @@
--- Lines by the indices at which they start and end. Dropping what precedes a line and then the line with its end is dropping both at once, so
--- a step from one line's start to the next is one step of the definition; where no newline is left, nothing is left after the line.
--- Assumes nothing.
+-- Of the parts that a text is split into at its newlines, part k is line k; past the last part there is nothing. Assumes nothing.
 use mathlib.Core.Path.{◌≡◌, refl, sym, ap, ◌∙◌}
 use mathlib.Core.List.{List, [], ◌∷◌}
-use Prim.Native.Nat.{ℕ, zero, suc, ◌+◌, ◌-◌, ◌≤◌, ◌<◌}
-use native.Mathlib.Nat.{le_of_suc-le-suc}
+use Prim.Native.Nat.{ℕ, zero, suc, ◌<◌}
 use native.Mathlib.Omega.{arith}
-use lib.ListN.{length, take, drop}
-use lib.Seq.{drop-nil, drop-drop}
+use lib.ListN.{length, take, drop, get_or}
+use lib.Seq.{drop-nil}
+use Rattle.std.proofs.Common.{Bool, true, false, cond, eqb, Option, None, Some, Bor, slice_get}
+use Rattle.std.specs.List.{slice_split, onto_first}
+use Rattle.std.specs.Option.{option_map, unwrap_or}
+use Rattle.std.proofs.lemmas.List.Splits.{length-slice_split}
+use Rattle.std.proofs.lemmas.Option.{unwrap_or-slice_get}
 use Rattle.text.specs.Ascii.{newline}
-use Rattle.text.specs.Cutting.{index_after, index_of, after}
+use Rattle.text.specs.Cutting.{index_after, index_of}
 use Rattle.printing.specs.InnerTexts.{from_line, line_of}
 
--- nothing follows the text's end
-drop_past : (n : ℕ) (text : List ℕ) → length text ≤ n → drop n text ≡ []
-drop_past n [] h = drop-nil n
-drop_past zero (b ∷ bs) h = let e : ⊥ = omega arith in absurd e
-drop_past (suc n) (b ∷ bs) h = drop_past n bs (le_of_suc-le-suc h)
+abbrev lines : List ℕ → List (List ℕ)
+lines = slice_split (λ b. eqb b newline)
 
 from_nothing : (k : ℕ) → from_line k [] ≡ []
 unfolding from_line
 from_nothing zero = refl
 from_nothing (suc k) = ap (from_line k) (drop-nil (suc (index_of newline []))) ∙ from_nothing k
 
--- no line is to be left behind
-pub at_line : (left : ℕ) (text : List ℕ) → left ≤ 0 → text ≡ from_line left text
-unfolding from_line
-at_line zero text h = refl
-at_line (suc left) text h = let e : ⊥ = omega arith in absurd e
+module _ (b : ℕ) (text : List ℕ) where
+  -- line k of the text with b before it, which ends the first line or stands in it
+  abbrev line_with : Bool → ℕ → List ℕ
+  line_with ends zero = take (index_after ends (index_of newline text)) (b ∷ text)
+  line_with ends (suc k) = line_of k (drop (suc (index_after ends (index_of newline text))) (b ∷ text))
 
--- ---- from the line that starts at `start` and ends at `end`
+  with_byte :
+      (ends : Bool) (parts : List (List ℕ)) → ((k : ℕ) → get_or parts k [] ≡ line_of k text) → 0 < length parts → (k : ℕ) →
+      get_or (cond ends ([] ∷ parts) (onto_first b parts)) k [] ≡ line_with ends k
+  unfolding line_of from_line index_after
+  with_byte true parts known some zero = refl
+  with_byte true parts known some (suc k) = known k
+  with_byte false [] known some k = absurd (omega arith)
+  with_byte false (part ∷ parts) known some zero = ap (λ xs. b ∷ xs) (known 0)
+  with_byte false (part ∷ parts) known some (suc k) = known (suc k)
 
-module _ (text : List ℕ) (start end : ℕ) (ends : end ≡ start + index_of newline (drop start text)) where
-  rest_is : drop (end + 1) text ≡ after newline (drop start text)
-  rest_is =
-      let place : end + 1 ≡ start + suc (index_of newline (drop start text)) = omega arith in
-      ap (λ (n : ℕ). drop n text) place ∙ sym (drop-drop (suc (index_of newline (drop start text))) start text)
+  line_is : (k : ℕ) → line_with (eqb b newline) k ≡ line_of k (b ∷ text)
+  unfolding line_of from_line index_of index_after
+  line_is zero = refl
+  line_is (suc k) = refl
 
-  -- the next line
-  pub next_line : (left : ℕ) → 0 < left → from_line (left - 1) (drop (end + 1) text) ≡ from_line left (drop start text)
-  unfolding from_line
-  next_line zero h = let e : ⊥ = omega arith in absurd e
-  next_line (suc left) h =
-      let one_less : suc left - 1 ≡ left = omega arith in
-      rw (one_less, rest_is)
+pub lines_of : (text : List ℕ) (k : ℕ) → get_or (lines text) k [] ≡ line_of k text
+unfolding line_of from_line index_of
+lines_of [] zero = refl
+lines_of [] (suc k) = sym (ap (λ xs. take (index_of newline xs) xs) (from_nothing (suc k)))
+lines_of (b ∷ text) k =
+    with_byte b text (eqb b newline) (lines text) (lines_of text) (omega (arith, length-slice_split (λ x. eqb x newline) text)) k ∙ line_is b text k
 
-  -- no line
-  pub no_line : (left : ℕ) → 0 < left → end ≡ length text → drop end text ≡ from_line left (drop start text)
-  unfolding from_line
-  no_line zero h e = let f : ⊥ = omega arith in absurd f
-  no_line (suc left) h e =
-      let nothing : after newline (drop start text) ≡ [] = sym rest_is ∙ drop_past (end + 1) text (omega arith) in
-      drop_past end text (omega arith) ∙ sym (ap (from_line left) nothing ∙ from_nothing left)
-
--- ---- the part from the start of line k to its end
-
-pub line_part :
-    (text : List ℕ) (k start end : ℕ) →
-    drop start text ≡ from_line k text →
-    end ≡ start + index_of newline (drop start text) →
-    take (end - start) (drop start text) ≡ line_of k text
-unfolding line_of
-line_part text k start end starts ends =
-    let size : end - start ≡ index_of newline (drop start text) = omega arith in
-    rw (size, starts)
-
--- ---- an example: "a", "bc", and an empty line past the last
-
-example : List ℕ
-example = 97 ∷ newline ∷ 98 ∷ 99 ∷ []
-
-example_lines : (line_of 0 example ≡ 97 ∷ []) × (line_of 1 example ≡ 98 ∷ 99 ∷ []) × (line_of 2 example ≡ [])
-unfolding example line_of from_line index_of index_after
-example_lines = (refl, refl, refl)
+-- the part that was taken, or nothing
+pub part_or_nothing :
+    (text : List ℕ) (k : ℕ) (taken : Option (Bor (List ℕ))) (nothing : Bor (List ℕ)) →
+    option_map (λ x. x.now) taken ≡ slice_get (lines text) k → nothing.now ≡ [] → (unwrap_or taken nothing).now ≡ line_of k text
+part_or_nothing text k taken nothing found empty =
+    now_of taken ∙ ap (λ m. unwrap_or m []) found ∙ unwrap_or-slice_get (lines text) k [] ∙ lines_of text k
+  where
+    now_of : (m : Option (Bor (List ℕ))) → (unwrap_or m nothing).now ≡ unwrap_or (option_map (λ x. x.now) m) []
+    now_of None = empty
+    now_of (Some x) = refl

@@ -1,6 +1,12 @@
--- `line` meets its contract, and what it has written is line k: the part of the text from where line k starts to where it ends. Assumes nothing.
-use Rattle.printing.proofs.TextLaws.{line_part}
+-- `line` gives line k: part k of the text split at its newlines, or nothing past the last. Assumes nothing.
+use Rattle.std.proofs.Common.{refl, ap, ◌∙◌, lit<}
+use Rattle.std.proofs.lemmas.Iterator.Consumers.{nth_from_yields_List}
+use Rattle.std.proofs.lemmas.Iterator.Splits.{YieldsList-from_str_split}
+use Rattle.printing.proofs.TextLaws.{part_or_nothing}
 use Rattle.printing.proofs.line.Goals as goal
 
-pub line_text-requires : goal.line_text-requires
-line_text-requires g c = line_part _ _ c.line_start-start.result c.line_end-end.result c.line_start-start.ensures.0 c.line_end-end.ensures.0
+pub returns : goal.returns
+returns c =
+    ap (λ x. x.now) c.unwrap_or.ensures ∙ part_or_nothing c.args.text.now c.args.k _ _
+    (nth_from_yields_List _ _ c.args.k c.nth.ensures.ran
+    (YieldsList-from_str_split 10 c.args.text.now (lit< tt) c.split.ensures.text c.split.ensures.has_more c.split.ensures.pattern)) refl
