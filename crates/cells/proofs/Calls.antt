@@ -1,7 +1,7 @@
 -- What the calls of `?` and of `div_euclid` come to, as the contracts say it. Assumes nothing.
 use mathlib.Core.Path.{◌≡◌, refl, sym, ap, ◌∙◌}
 use mathlib.Core.Bool.{Bool, true, false}
-use Prim.Native.Nat.{ℕ, suc}
+use Prim.Native.Nat.{ℕ}
 use lib.IntN.{ℤ, pos, nat_abs}
 use mir.Facts.{to_z-of_z}
 use Rattle.std.specs.Int.{int_div_euclid}

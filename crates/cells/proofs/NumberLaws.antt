@@ -1,14 +1,14 @@
 -- Laws of the cell number, for every side above 0 and every coordinate. A number is the coordinate's exactly where its cell holds the
 -- coordinate: its product with the side is not above the coordinate, and the next number's, with all that follow, is. A whole quotient toward
 -- 0 is such a number where no negative remainder is left, and one less is where one is; so there is a cell, and one alone. Assumes nothing.
-use mathlib.Core.Path.{◌≡◌, sym, ap, ◌∙◌, subst}
+use mathlib.Core.Path.{◌≡◌, sym, ◌∙◌, subst}
 use mathlib.Core.List.{[], ◌∷◌}
 use mathlib.Core.Logic.{◌⊎◌, inl, inr}
-use Prim.Native.Nat.{ℕ, suc, zero-le, ◌/◌, ◌%◌, ◌<◌, ◌≤◌}
+use Prim.Native.Nat.{ℕ, zero-le, ◌/◌, ◌<◌, ◌≤◌}
 use native.Mathlib.Nat.{div-add-mod', le-mul_of_pos_right, mod-lt}
 use native.Mathlib.Omega.{arith}
-use lib.IntN.{ℤ, pos, negsuc, neg_ℤ, nat_abs, ◌+ℤ◌, ◌-ℤ◌, ◌*ℤ◌}
-use lib.Signed.{◌≤ℤ◌, ◌<ℤ◌, ≤ℤ_refl, quot_z, rem_z}
+use lib.IntN.{ℤ, pos, negsuc, nat_abs, ◌+ℤ◌, ◌-ℤ◌, ◌*ℤ◌}
+use lib.Signed.{◌≤ℤ◌, ◌<ℤ◌, ≤ℤ_refl}
 use Rattle.proof_kit.proofs.Laws.{nat_abs_parts, parts-+, parts--, P-*, N-*}
 use Rattle.proof_kit.proofs.Order.{
   order,
@@ -23,7 +23,6 @@ use Rattle.proof_kit.proofs.Order.{
   pos-≤ℤ,
 }
 use Rattle.proof_kit.proofs.Ring.{ring, quote}
-use Rattle.proof_kit.proofs.Size.{abs_rem}
 use Rattle.std.specs.Int.{int_div_euclid}
 use Rattle.cells.specs.Cells.{not_above, cell_number}
 use Rattle.cells.specs.Theorems.{NumberGreatest, NumberUnique, InCell, OneCell, NumberCell, CellsTouch}

@@ -1,17 +1,12 @@
 -- What is known of an accepted side. The code compares bits: bits say which number is held, so a side is the one whose bits it has and no
 -- other. What holds of each of the three, by computation, holds of an accepted side. Assumes nothing.
-use mathlib.Core.Path.{◌≡◌, refl, sym, ap, ◌∙◌, subst}
-use mathlib.Core.Bool.{true, false, ◌||◌}
+use mathlib.Core.Path.{◌≡◌, refl, sym, subst}
+use mathlib.Core.Bool.{true, ◌||◌}
 use mathlib.Core.Logic.{◌⊎◌, inl, inr}
-use Prim.Native.Nat.{ℕ, ◌≤◌, ◌<◌}
+use Prim.Native.Nat.{◌≤◌, ◌<◌}
 use lib.Dec.{lit≤, lit<}
 use lib.IntN.{ℤ, pos, nat_abs}
-use mir.Syntax.{w64}
-use mir.Val.{SFits, to_z, of_z}
-use mir.Facts.{to_z-of_z}
-use Rattle.integers.proofs.Greatest.{not_true}
 use Rattle.units.specs.Spans.{same}
-use Rattle.units.specs.Refusals.{out_of_limits, unless}
 use Rattle.units.proofs.Spans.{either, same_equal}
 use Rattle.cells.specs.declared.Side.{Side}
 use Rattle.cells.specs.declared.Side.TheVariants.{Metres100, Kilometre, Kilometres10}

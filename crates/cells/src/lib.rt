@@ -62,8 +62,8 @@ impl Side {
         }
     }
 
-    #[tactic(auto, using(crate::proofs::Calls::by_division))]
     // The number, along its axis, of the cell that a coordinate lies in.
+    #[tactic(auto, using(crate::proofs::Calls::by_division))]
     pub fn cell_number(self, coordinate: i64) -> i64
         ensures { result ≡ cell_number (side_length self) coordinate }
     {

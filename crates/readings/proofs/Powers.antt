@@ -7,8 +7,9 @@ use Prim.Native.Nat.{◌+◌, ◌*◌, ◌^◌}
 use native.Mathlib.Omega.{arith}
 use lib.Dec.{lit≤}
 use lib.IntN.{pos, nat_abs}
-use lib.Ieee.{Float, nan, inf, fin, up, down, lt}
+use lib.Ieee.{Float, nan, inf, fin, up, down, lt, of_bits, binary64}
 use lib.Ieee.Fits.{down_pos}
+use mir.Facts.{to_z-of_z}
 use borrow.Author.Tests.{ltb-false}
 use Rattle.integers.proofs.Rounding.{nearest_zero}
 use Rattle.units.specs.Units.{milliwatt}
@@ -21,23 +22,10 @@ use Rattle.floats.proofs.Coordinates.{whole_at_most}
 use Rattle.readings.specs.Readings.{least_power, greatest_power, beyond_power, power_refusal, nanowatts_of}
 use Rattle.readings.specs.Theorems.{PowerRounded, PowerBounded, PowerNumbers}
 
--- ---- the chain of tests as the code makes it
-
-pub not_finite : (x : Float) → is_finite x ≡ false → 41 ≡ power_refusal x
-unfolding power_refusal
-not_finite x h = rw h
-
-pub below : (x : Float) → is_finite x ≡ true → lt x least_power ≡ true → 42 ≡ power_refusal x
-unfolding power_refusal beyond_power
-below x finite h = rw (finite, h)
-
-pub above : (x : Float) → is_finite x ≡ true → lt x least_power ≡ false → lt greatest_power x ≡ true → 42 ≡ power_refusal x
-unfolding power_refusal beyond_power
-above x finite low h = rw (finite, low, h)
-
-pub none : (x : Float) → is_finite x ≡ true → lt x least_power ≡ false → lt greatest_power x ≡ false → 0 ≡ power_refusal x
-unfolding power_refusal beyond_power
-none x finite low high = rw (finite, low, high)
+-- the limits as the code holds them
+pub beyond_by_bits : (x : Float) → beyond_power x ≡ (lt x (of_bits binary64 0) || lt (of_bits binary64 4_652_007_308_841_189_376) x)
+unfolding beyond_power of_bits
+beyond_by_bits x = refl
 
 -- ---- what an accepted power is
 
@@ -91,3 +79,14 @@ power_bounded x h = whole_at_most milliwatt 1_000 x (at_most x (accepted x h))
 pub power_numbers : PowerNumbers
 unfolding power_refusal
 power_numbers x = let g : Gives (0 ∷ power_not_finite ∷ power_out_of_limits ∷ []) (power_refusal x) = search chain depth 40 in g.one
+
+-- ---- as `nanowatts` computes it
+
+pub in_whole : (x : Float) → nanowatts_of x ≡ nat_abs (whole_of milliwatt x)
+unfolding nanowatts_of
+in_whole x = refl
+
+pub within_accepted : (x : Float) → power_refusal x ≡ 0 → within_limit plane_limit_float x ≡ true
+within_accepted x h = within x (accepted x h)
+
+pub ruleset by_whole = (in_whole, within_accepted, to_z-of_z)

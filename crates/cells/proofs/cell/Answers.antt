@@ -1,5 +1,5 @@
 -- Each test by the length and the position as they were passed.
-use Rattle.std.proofs.Common.{◌≡◌, ap₂, ◌∙◌, sym, to_z-of_z, arith, rules}
+use Rattle.std.proofs.Common.{◌∙◌, sym, to_z-of_z, arith}
 use Rattle.std.proofs.lemmas.Result.{err_from_is_err_and}
 use Rattle.cells.proofs.Calls.{taken, passed, cell_side, cell_position, cell_given}
 use Rattle.cells.proofs.cell.Goals as goal

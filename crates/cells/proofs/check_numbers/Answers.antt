@@ -1,4 +1,4 @@
-use Rattle.std.proofs.Common.{◌≡◌, ap₂, ◌∙◌, sym, to_z-of_z, arith, rules}
+use Rattle.std.proofs.Common.{to_z-of_z, arith}
 use Rattle.std.proofs.lemmas.Result.{err_from_is_err_and}
 use Rattle.cells.proofs.Calls.{taken, numbers_side, numbers_checked}
 use Rattle.cells.proofs.check_numbers.Goals as goal
