@@ -7,11 +7,9 @@ use lib.Dec.{lit≤}
 use lib.IntN.{ℤ, pos, nat_abs}
 use lib.ListN.{length, length-append}
 use Rattle.text.proofs.Digits.{text_size}
-use Rattle.replies.specs.declared.Reply.{Reply}
-use Rattle.replies.specs.declared.Reply.TheVariants.{Plane, Position, Refused, Bad}
 use Rattle.text.specs.Ascii.{ascii}
 use Rattle.text.specs.Numbers.{pair_text}
-use Rattle.replies.specs.Replies.{reply_text}
+use Rattle.replies.specs.Replies.{Reply, Plane, Position, Refused, Bad, reply_text}
 
 -- both numbers have at most 11 digits
 abbrev pub SmallPair : ℤ → ℤ → Type 0

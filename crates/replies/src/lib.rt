@@ -1,31 +1,34 @@
 // What a line of the program is answered, as text: document 01, "The program".
 #![tactic(auto)]
 
-ghost use Rattle.std.specs.Prelude.{◌+◌, ◌≤◌, length};
-ghost use Rattle.text.specs.Pasting.{Put};
-ghost use Rattle.replies.specs.Replies.{reply_text};
+ghost use Rattle.std.specs.Prelude.{◌≡◌, ◌+◌, ◌++◌, ◌≤◌, length};
+ghost use Rattle.arrayvec.specs.ArrayString.{array_string_len};
+ghost use Rattle.replies.specs.Replies.{replied, reply_text};
 
-use text::{put_bytes, put_labelled, put_pair};
+use arrayvec::ArrayString;
+use text::{push_labelled, push_pair};
+use units::refusals::Refusal;
 
-// Easting and northing in cm, latitude and longitude in mas, the refusal number, or that the line is
-// of another form.
-#[derive(Clone, Copy)]
+// Easting and northing in cm, latitude and longitude in mas, the refusal, or that the line is of
+// another form.
+#[derive(Clone, Copy, Debug, PartialEq, Eq)]
 pub enum Reply {
     Plane(i64, i64),
     Position(i64, i64),
-    Refused(u8),
+    Refused(Refusal),
     Bad,
 }
 
-// Writes a reply at an index and answers the index after it.
-pub fn put_reply(out: &mut [u8], at: usize, reply: Reply) -> usize
-    requires { at + length (reply_text reply) ≤ length out.old }
-    ensures { Put out.old at (reply_text reply) out.new result }
+// Appends a reply to a text. `write!` gives the bytes of a `Display` only where it is `Ok`, and no clause says that
+// it is; a reply is always written.
+pub fn push_reply<const N: usize>(text: &mut ArrayString<N>, reply: Reply)
+    requires { array_string_len text.old + length (reply_text (replied reply)) ≤ N }
+    ensures { text.new.bytes ≡ text.old.bytes ++ reply_text (replied reply) }
 {
     match reply {
-        Reply::Plane(easting, northing) => put_pair(out, at, b"E ", easting, b" N ", northing),
-        Reply::Position(latitude, longitude) => put_pair(out, at, b"P ", latitude, b" ", longitude),
-        Reply::Refused(number) => put_labelled(out, at, b"refused ", number as i64),
-        Reply::Bad => put_bytes(out, at, b"bad line"),
+        Reply::Plane(easting, northing) => push_pair(text, "E ", easting, " N ", northing),
+        Reply::Position(latitude, longitude) => push_pair(text, "P ", latitude, " ", longitude),
+        Reply::Refused(refusal) => push_labelled(text, "refused ", i64::from(refusal.number())),
+        Reply::Bad => text.push_str("bad line"),
     }
 }

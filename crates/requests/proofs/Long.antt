@@ -10,13 +10,11 @@ use lib.Dec.{eqb}
 use lib.ListN.{length, take, length-take, length-drop}
 use lib.Seq.{take_all, length-take-le}
 use Rattle.proof_kit.proofs.Order.{le_or_lt}
-use Rattle.text.specs.declared.Numeral.{Numeral}
-use Rattle.text.specs.Numbers.{digits_most, number_of}
+use Rattle.text.specs.Numbers.{Numeral, digits_most, number_of}
 use Rattle.text.specs.Cutting.{index_of, up_to, after}
 use Rattle.text.proofs.Cutting.{index_within}
 use Rattle.text.proofs.Numerals.{number_long}
-use Rattle.requests.specs.declared.Request.TheVariants.{Bad}
-use Rattle.requests.specs.Requests.{space, by_letter, by_fields, request_of, line_most, most_kept}
+use Rattle.requests.specs.Requests.{Bad, space, by_letter, by_fields, request_of, line_most, most_kept}
 use Rattle.requests.specs.Theorems.{LongIsBad, KeptAlike}
 use Rattle.requests.proofs.Requests.{first_other, second_other}
 

@@ -1,12 +1,22 @@
 -- Document 01, "The program": what a line asks for. Bytes are ASCII.
-use Rattle.std.specs.Prelude.{ℕ, suc, cond, List, [], ◌∷◌, eqb, ℤ}
+use Rattle.std.specs.Prelude.{ℕ, suc, cond, List, [], ◌∷◌, eqb, ℤ, Option, Some, None}
 use Prim.Native.Char.{code}
-use Rattle.text.specs.declared.Numeral.{Numeral}
-use Rattle.text.specs.declared.Numeral.TheVariants.{Number, Other}
-use Rattle.text.specs.Numbers.{number_of}
+use Rattle.text.specs.Numbers.{Numeral, Number, Other, number_of}
 use Rattle.text.specs.Cutting.{up_to, after}
-use Rattle.requests.specs.declared.Request.{Request}
-use Rattle.requests.specs.declared.Request.TheVariants.{Forward, Inverse, Bad}
+use Rattle.requests.specs.declared.Request.{Request as Line}
+use Rattle.requests.specs.declared.Request.TheVariants as line
+
+-- what a line asks for, or that it is of another form
+pub data Request : Type 0 where
+  Forward : ℤ → ℤ → Request
+  Inverse : ℤ → ℤ → Request
+  Bad : Request
+
+-- what is read of a line that may be of another form
+abbrev pub asked : Option Line → Request
+asked (Some (line.Forward x y)) = Forward x y
+asked (Some (line.Inverse x y)) = Inverse x y
+asked None = Bad
 
 abbrev pub space : ℕ
 space = code " "

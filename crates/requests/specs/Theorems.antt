@@ -1,7 +1,6 @@
 -- What holds of every line. What `LongIsBad` states is proved as `long_is_bad` in proofs/, and so the other.
 use Rattle.std.specs.Prelude.{ℕ, ◌<◌, ◌≡◌, List, length, take}
-use Rattle.requests.specs.declared.Request.TheVariants.{Bad}
-use Rattle.requests.specs.Requests.{request_of, line_most, most_kept}
+use Rattle.requests.specs.Requests.{Bad, request_of, line_most, most_kept}
 
 -- A line of more than 25 bytes is of another form.
 abbrev pub LongIsBad : Type 0

@@ -4,3 +4,4 @@ pub mod Searching
 pub mod Sameness
 pub mod Digits
 pub mod Numerals
+pub mod Printing

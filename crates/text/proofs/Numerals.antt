@@ -1,36 +1,22 @@
 -- What bytes spell: the cases of `unsigned_of` and `number_of`. What is printed is read back, since it is one to ten digits of that value, and a
 -- minus is no digit; what is read is printed as it stood, where it has no leading zeros. Assumes nothing.
-use mathlib.Core.Path.{◌≡◌, refl, ap, ◌∙◌}
-use mathlib.Core.Bool.{Bool, true, false, ◌&&◌, and-false, cond}
+use mathlib.Core.Path.{◌≡◌, refl, sym, ap, ◌∙◌}
+use mathlib.Core.Bool.{Bool, true, false, ◌&&◌, and-false, cond, false≢true}
 use mathlib.Core.List.{List, [], ◌∷◌}
-use Prim.Native.Nat.{ℕ, suc, ◌+◌, ◌*◌, ◌-◌, ◌<◌, ◌≤◌}
+use Prim.Native.Nat.{ℕ, suc, ◌<◌, ◌≤◌}
 use native.Mathlib.Omega.{arith}
 use borrow.Author.Tests.{le-leb, lt-leb, ne_eqb, leb-true}
 use lib.Dec.{eqb, leb}
 use lib.IntN.{ℤ, pos, negsuc}
-use lib.ListN.{length, drop, get_or}
+use lib.ListN.{length, take, drop, get_or}
+use Rattle.std.specs.Prelude.{nat_eq}
+use Rattle.std.specs.Cmp.Lexicographic.{pointwise}
 use lib.Seq.{drop-cons}
 use Rattle.integers.specs.Near.{signed}
 use Rattle.integers.proofs.Greatest.{both}
-use Rattle.text.specs.declared.Numeral.TheVariants.{Number, Other}
-use Rattle.text.specs.Numbers.{minus, is_digit, are_digits, value_from, digits_most, unsigned_of, number_of, decimal, number_text}
+use Rattle.text.specs.Numbers.{Number, Other, minus, is_digit, are_digits, value_from, digits_most, unsigned_of, number_of, decimal, number_text}
 use Rattle.text.specs.Theorems.{PrintedRead, ReadPrinted}
-use Rattle.text.proofs.Digits.{digit, decimal_length, decimal_some, decimal_digits, decimal_value, plain_digits, text_negative, text_natural}
-
--- ---- one digit of many, at index i
-
-module _ (bs : List ℕ) (i : ℕ) (inside : i < length bs) where
-  pub below_digits : get_or bs i 0 < 48 → are_digits (drop i bs) ≡ false
-  below_digits h = rw (drop-cons bs i 0 inside, lt-leb 48 (get_or bs i 0) h) refl
-
-  pub above_digits : 57 < get_or bs i 0 → are_digits (drop i bs) ≡ false
-  above_digits h = rw (drop-cons bs i 0 inside, lt-leb (get_or bs i 0) 57 h, and-false (leb 48 (get_or bs i 0))) refl
-
-  pub digits_go_on : 48 ≤ get_or bs i 0 → get_or bs i 0 ≤ 57 → are_digits (drop i bs) ≡ are_digits (drop (suc i) bs)
-  digits_go_on low high = rw (drop-cons bs i 0 inside, digit (get_or bs i 0) low high) refl
-
-  pub value_goes_on : (v : ℕ) → value_from v (drop i bs) ≡ value_from (10 * v + (get_or bs i 0 - 48)) (drop (suc i) bs)
-  value_goes_on v = rw (drop-cons bs i 0 inside) refl
+use Rattle.text.proofs.Digits.{decimal_length, decimal_some, decimal_digits, decimal_value, plain_digits, text_negative, text_natural}
 
 -- ---- without a minus
 
@@ -47,6 +33,10 @@ module _ (negative : Bool) (bs : List ℕ) where
   unfolding unsigned_of
   unsigned_not h = rw h refl
 
+  -- a byte that is no digit, at index i, after digits alone
+  pub unsigned_other : (i : ℕ) → are_digits bs ≡ are_digits (drop i bs) → i < length bs → is_digit (get_or bs i 0) ≡ false → unsigned_of negative bs ≡ Other
+  unsigned_other i same inside other = unsigned_not (same ∙ rw (drop-cons bs i 0 inside, other) refl)
+
   pub unsigned_is :
       are_digits bs ≡ true →
       1 ≤ length bs →
@@ -62,15 +52,19 @@ unfolding number_of
 number_empty [] h = refl
 number_empty (b ∷ bs) h = absurd (omega arith)
 
-pub number_minus : (bs : List ℕ) → 0 < length bs → get_or bs 0 0 ≡ minus → number_of bs ≡ unsigned_of true (drop 1 bs)
+pub number_minus : (bs : List ℕ) → pointwise nat_eq (take 1 bs) (minus ∷ []) ≡ true → number_of bs ≡ unsigned_of true (drop 1 bs)
 unfolding number_of
-number_minus [] some h = absurd (omega arith)
-number_minus (b ∷ bs) some h = rw h refl
+number_minus [] h = absurd (false≢true h)
+number_minus (b ∷ bs) h = rw (both (eqb b minus) true h).0 refl
 
-pub number_plain : (bs : List ℕ) → 0 < length bs → (get_or bs 0 0 ≡ minus → ⊥) → number_of bs ≡ unsigned_of false bs
+pub number_plain : (bs : List ℕ) → pointwise nat_eq (take 1 bs) (minus ∷ []) ≡ false → number_of bs ≡ unsigned_of false bs
 unfolding number_of
-number_plain [] some h = absurd (omega arith)
-number_plain (b ∷ bs) some h = rw (ne_eqb b minus h) refl
+number_plain [] h = sym (unsigned_empty false [] refl)
+number_plain (b ∷ bs) h = either (eqb b minus) h
+  where
+    either : (t : Bool) → (t && true) ≡ false → cond t (unsigned_of true bs) (unsigned_of false (b ∷ bs)) ≡ unsigned_of false (b ∷ bs)
+    either true h = absurd (false≢true (sym h))
+    either false h = refl
 
 -- a minus and ten digits are eleven bytes
 pub number_long : (bs : List ℕ) → suc digits_most < length bs → number_of bs ≡ Other
@@ -88,7 +82,7 @@ unfolding number_of unsigned_of
 number_digits [] h = refl
 number_digits (b ∷ bs) h =
     let low = leb-true 48 b (both (leb 48 b) (leb b 57) (both (is_digit b) (are_digits bs) h).0).0 in
-    number_plain (b ∷ bs) (omega arith) (λ e. omega arith)
+    number_plain (b ∷ bs) (ap (λ (t : Bool). t && true) (ne_eqb b minus (λ e. omega arith)))
 
 -- ---- printed and read
 
@@ -101,7 +95,7 @@ pub printed_read : PrintedRead
 printed_read (pos n) h = ap number_of (text_natural n) ∙ number_digits (decimal n) (decimal_digits n) ∙ decimal_read false n h
 printed_read (negsuc n) h =
     ap number_of (text_negative (negsuc n) refl)
-    ∙ number_minus (minus ∷ decimal (suc n)) (omega arith) refl
+    ∙ number_minus (minus ∷ decimal (suc n)) refl
     ∙ decimal_read true (suc n) h
 
 -- ---- read and printed

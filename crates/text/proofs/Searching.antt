@@ -5,11 +5,12 @@ use mathlib.Core.List.{List, [], ◌∷◌}
 use Prim.Native.Nat.{ℕ, zero, suc, ◌+◌, ◌-◌, ◌<◌, ◌≤◌}
 use native.Mathlib.Omega.{arith}
 use lib.Dec.{eqb}
-use lib.ListN.{length, take, drop}
-use lib.Seq.{slice}
+use lib.ListN.{length, take, drop, length-drop}
+use lib.Seq.{slice, length-take-le}
 use Rattle.std.proofs.lemmas.List.{drop-take}
 use Rattle.memchr.specs.Find.{Nowhere, Passes, is_byte}
-use Rattle.text.specs.Cutting.{index_after, index_of}
+use Rattle.text.specs.Cutting.{index_after, index_of, IsCut}
+use Rattle.text.proofs.Cutting.{before_cut, after_cut, rest_of}
 
 -- what the code searches, from one index to another
 pub part_of : (from to : ℕ) (xs : List ℕ) → from ≤ to → take (to - from) (drop from xs) ≡ slice from to xs
@@ -42,3 +43,21 @@ unfolding index_of
 index_missing b [] none = refl
 index_missing b (x ∷ xs) none =
     further b x xs (none 0 (omega arith) (omega arith)) ∙ ap suc (index_missing b xs (rest_without b x xs (length xs) none))
+
+-- the parts that are lent at the place that was found
+pub cut_found :
+    (b : ℕ) (xs : List ℕ) (k : ℕ) →
+    k < length xs →
+    Nowhere (Passes (is_byte b) xs) 0 k →
+    Passes (is_byte b) xs k →
+    IsCut b xs (take k xs) (take (length xs - (k + 1)) (drop (k + 1) xs))
+cut_found b xs k inside none here =
+    let at = sym (index_found b xs k inside none here) in
+    let size : length (take k xs) ≡ k = length-take-le k xs (omega arith) in
+    let rest : length (drop (k + 1) xs) ≡ length xs - (k + 1) = length-drop (k + 1) xs in
+    record {
+      before_is = before_cut b xs k at;
+      rest_is = after_cut b xs k at;
+      at = size ∙ at;
+      whole = rw (rest_of (k + 1) xs) (omega arith);
+    }

@@ -1,10 +1,18 @@
 -- Whole numbers as text, in ASCII bytes. What is read is a number of document 01, "The program"; grid codes read digits by the same rule.
-use Rattle.std.specs.Prelude.{ℕ, zero, suc, ◌+◌, ◌*◌, ◌-◌, ◌/◌, ◌%◌, Bool, true, false, ◌&&◌, cond, List, [], ◌∷◌, ◌++◌, eqb, leb, ltb, length, ℤ, pos, nat_abs}
+use Rattle.std.specs.Prelude.{ℕ, zero, suc, ◌+◌, ◌*◌, ◌-◌, ◌/◌, ◌%◌, Bool, true, false, ◌&&◌, cond, List, [], ◌∷◌, ◌++◌, eqb, leb, ltb, length, ℤ, pos, nat_abs, Option, Some, None}
 use Prim.Native.Char.{code}
 use Rattle.std.specs.Int.Signed.{lt_z}
 use Rattle.integers.specs.Near.{signed}
-use Rattle.text.specs.declared.Numeral.{Numeral}
-use Rattle.text.specs.declared.Numeral.TheVariants.{Number, Other}
+
+-- what bytes spell: a number, or something else
+pub data Numeral : Type 0 where
+  Number : ℤ → Numeral
+  Other : Numeral
+
+-- what is read where a number may stand
+abbrev pub numeral : Option ℤ → Numeral
+numeral (Some z) = Number z
+numeral None = Other
 
 abbrev pub minus : ℕ
 minus = code "-"

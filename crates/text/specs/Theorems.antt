@@ -1,7 +1,6 @@
 -- What holds of numbers as text. What `PrintedRead` states is proved as `printed_read` in proofs/, and so the other.
 use Rattle.std.specs.Prelude.{ℕ, ◌<◌, ◌≡◌, false, List, ℤ, nat_abs}
-use Rattle.text.specs.declared.Numeral.TheVariants.{Number}
-use Rattle.text.specs.Numbers.{leading_zero, unsigned_of, number_of, number_text}
+use Rattle.text.specs.Numbers.{Number, leading_zero, unsigned_of, number_of, number_text}
 
 -- Printing a number of at most ten digits and reading it gives it back.
 abbrev pub PrintedRead : Type 0
