@@ -2,3 +2,4 @@ pub mod Angle
 pub mod InnerSearch
 pub mod InnerTrial
 pub mod InnerEstimate
+pub mod InnerThreshold

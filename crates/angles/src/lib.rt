@@ -1,116 +1,51 @@
 // The angle of two numbers, document 01, "Sine and angle": found by a search over the angles from 0 to
-// 90°. Every function takes the table lent: see sine_table::table.
+// 90°. Every function takes the table lent: see SineTable::new.
 #![tactic(auto)]
 
 ghost use Rattle.std.specs.Prelude.{◌≡◌, ◌≤◌};
-ghost use Rattle.integers.specs.Greatest.{greatest};
-ghost use Rattle.integers.specs.InnerSearch.{bracketed, Span, About};
-ghost use Rattle.sine_table.specs.Table.{IsTable};
+ghost use Rattle.std.proofs.Common.{lit<};
 ghost use Rattle.units.specs.Units.{right_angle};
 ghost use Rattle.trig.specs.Sine.{quarter_minutes};
 ghost use Rattle.angles.specs.InnerEstimate.{whole_part, part_limit};
 ghost use Rattle.angles.specs.Angle.{under, angle};
-ghost use Rattle.angles.specs.InnerSearch.{angle_limit, Searchable};
-ghost use Rattle.angles.specs.InnerTrial.{over, Settles};
+ghost use Rattle.angles.specs.InnerSearch.{angle_limit};
+ghost use Rattle.angles.specs.InnerTrial.{Settles};
+ghost use Rattle.angles.specs.InnerThreshold.{under_threshold};
 
-use integers::{WIDENED_BY, WIDENING, excess};
-use sine_table::Table;
+use integers::excess;
+use integers::search::{Test, search, search_near};
+use sine_table::SineTable;
 use trig::{QUARTER_MINUTES, first_quarter, minute_sine, quarter_pair, rise};
 use units::{MINUTE, RIGHT_ANGLE};
 
-// Whether sine(θ)·p is not above cosine(θ)·q.
-fn is_under(t: &Table, p: u64, q: u64, theta: u64) -> bool
-    requires { Searchable t.now p q × (theta ≤ right_angle) }
-    ensures { result ≡ under p q theta }
-{
-    first_quarter(t, theta) * p <= first_quarter(t, RIGHT_ANGLE - theta) * q
-}
-
-// The greatest angle up to `high` that is under, where `low` is: halves the span until one is left.
-fn search(t: &Table, p: u64, q: u64, low: u64, high: u64) -> u64
-    requires { Searchable t.now p q × Span (under p q) right_angle low high }
-    ensures { result ≡ greatest (under p q) high }
-{
-    if low == high {
-        return low;
-    }
-    let mid = high - (high - low) / 2;
-    if is_under(t, p, q, mid) {
-        search(t, p, q, mid, high)
-    } else {
-        search(t, p, q, low, mid - 1)
-    }
-}
-
-// Whether the greatest angle that is under lies from `low` to `high`: `low` is under, and the angle
-// after `high` is not or is past 90°.
-fn is_bracketed(t: &Table, p: u64, q: u64, low: u64, high: u64) -> bool
-    requires { Searchable t.now p q × (low ≤ right_angle) × (high ≤ right_angle) }
-    ensures { result ≡ bracketed (under p q) right_angle low high }
-{
-    if !is_under(t, p, q, low) {
-        return false;
-    }
-    if high == RIGHT_ANGLE {
-        return true;
-    }
-    !is_under(t, p, q, high + 1)
-}
-
-// The greatest angle that is under: searches the span of this margin about the estimate, or where
-// that does not hold it a wider one, up to the whole quarter.
-fn search_near(t: &Table, p: u64, q: u64, estimate: u64, margin: u64) -> u64
-    requires { Searchable t.now p q × About right_angle estimate margin }
-    ensures { result ≡ greatest (under p q) right_angle }
-{
-    let low = excess(estimate, margin);
-    let high = RIGHT_ANGLE - excess(RIGHT_ANGLE, estimate + margin);
-    if is_bracketed(t, p, q, low, high) {
-        return search(t, p, q, low, high);
-    }
-    search_near(t, p, q, estimate, WIDENING * margin + WIDENED_BY)
-}
-
-// What one test at an angle tells.
+// The angles whose sine times p is not above their cosine times q; p and q leave room in 64 bits for the products.
 #[derive(Clone, Copy)]
-pub enum Trial {
-    // the greatest angle that is under
-    Settled(u64),
-    // nothing
-    Open,
+struct Under<'t> {
+    t: &'t SineTable,
+    p: u64,
+    q: u64,
+    ghost p_size: { p ≤ angle_limit },
+    ghost q_size: { q ≤ angle_limit },
 }
 
-// 1 where s is above c, else 0.
-fn over(s: u64, c: u64) -> u64
-    ensures { result ≡ over s c }
-{
-    if s <= c { 0 } else { 1 }
-}
+impl Test for Under<'_> {
+    ghost most = { right_angle };
 
-// One part in SLACK_PARTS of p + q is more than the bend of sine and cosine in a minute takes.
-const SLACK_PARTS: u64 = 1_024;
+    ghost passes = { λ test. under test.p test.q };
 
-// One test at theta, inside minute k. From mas to mas of a minute cosine(θ)·q − sine(θ)·p falls by `fall`, less
-// p + q for the roundings of sine and cosine and less a little for their bend. Where it is nearer to 0 at theta
-// than that, it is 0 or more at theta or at the mas before, and below 0 at the next.
-fn settle(t: &Table, p: u64, q: u64, theta: u64) -> Trial
-    requires { Searchable t.now p q × (theta ≤ right_angle) }
-    ensures { Settles p q result }
-{
-    let k = theta / MINUTE;
-    let r = theta % MINUTE;
-    if r == 0 {
-        return Trial::Open;
+    fn most(&self) -> u64 {
+        RIGHT_ANGLE
     }
-    let at = quarter_pair(t, k, r);
-    let s = at.sine * p;
-    let c = at.cosine * q;
-    let fall = (rise(t, k) * p + rise(t, QUARTER_MINUTES - 1 - k) * q) / MINUTE;
-    let slack = p + q + (p + q) / SLACK_PARTS;
-    if fall <= excess(c, s) + excess(s, c) + slack {
-        return Trial::Open;
+
+    // Whether sine(θ)·p is not above cosine(θ)·q.
+    #[tactic(auto, using(crate::proofs::Angles::product_small, crate::specs::InnerThreshold::under_is))]
+    fn passes(&self, theta: u64) -> bool {
+        first_quarter(self.t, theta) * self.p <= first_quarter(self.t, RIGHT_ANGLE - theta) * self.q
     }
-    Trial::Settled(theta - over(s, c))
+
+    ghost room = { lit< tt };
+
+    ghost threshold = { λ test. under_threshold test.p test.q };
 }
 
 // Tangents from 0 to 1 are counted in parts of 2^14.
@@ -155,9 +90,7 @@ fn estimate_minutes(p: u64, q: u64) -> u64
     requires { (p ≤ angle_limit) × (q ≤ angle_limit) }
     ensures { result ≤ quarter_minutes }
 {
-    let lower = p - excess(p, q);
-    let upper = q + excess(p, q);
-    let k = arctangent_minutes(ratio(lower, upper));
+    let k = arctangent_minutes(ratio(p.min(q), p.max(q)));
     if q <= p { k } else { QUARTER_MINUTES - k }
 }
 
@@ -166,34 +99,66 @@ const RADIAN: u64 = 206_264_806;
 
 const TEN_MINUTES: u64 = 600_000;
 
-// angle(p, q) to the nearest mas, mostly, where p or q is large. The part of it past minute k has the tangent
-// (cosine(k)·q − sine(k)·p)/(cosine(k)·p + sine(k)·q). Ten minutes are added on the way, so that
-// nothing is negative. Nothing rests on its precision.
-fn estimate(t: &Table, p: u64, q: u64) -> u64
-    requires { Searchable t.now p q }
-    ensures { result ≤ right_angle }
-{
-    let k = estimate_minutes(p, q);
-    let s = minute_sine(t, k);
-    let c = minute_sine(t, QUARTER_MINUTES - k);
-    let mas = c * p / RADIAN + s * q / RADIAN + 1;
-    let theta = MINUTE * k + excess(c * q + TEN_MINUTES * mas + mas / 2, s * p) / mas;
-    RIGHT_ANGLE - excess(RIGHT_ANGLE, excess(theta, TEN_MINUTES))
+// One part in SLACK_PARTS of p + q is more than the bend of sine and cosine in a minute takes.
+const SLACK_PARTS: u64 = 1_024;
+
+impl Under<'_> {
+    // One test at theta, inside minute k. From mas to mas of a minute cosine(θ)·q − sine(θ)·p falls by `fall`, less
+    // p + q for the roundings of sine and cosine and less a little for their bend. Where it is nearer to 0 at theta
+    // than that, it is 0 or more at theta or at the mas before, and below 0 at the next.
+    #[tactic(auto, using(crate::proofs::Angles::product_small, trig::proofs::Fraction::rise_product))]
+    fn settle(&self, theta: u64) -> Option<u64>
+        requires { theta ≤ right_angle }
+        ensures { Settles self.now.p self.now.q result }
+    {
+        let k = theta / MINUTE;
+        let r = theta % MINUTE;
+        if r == 0 {
+            return None;
+        }
+        let at = quarter_pair(self.t, k, r);
+        let s = at.sine * self.p;
+        let c = at.cosine * self.q;
+        let fall = (rise(self.t, k) * self.p + rise(self.t, QUARTER_MINUTES - 1 - k) * self.q)
+            / MINUTE;
+        let slack = self.p + self.q + (self.p + self.q) / SLACK_PARTS;
+        if fall <= s.abs_diff(c) + slack {
+            return None;
+        }
+        Some(if s <= c { theta } else { theta - 1 })
+    }
+
+    // angle(p, q) to the nearest mas, mostly, where p or q is large. The part of it past minute k has the tangent
+    // (cosine(k)·q − sine(k)·p)/(cosine(k)·p + sine(k)·q). Ten minutes are added on the way, so that
+    // nothing is negative. Nothing rests on its precision.
+    #[tactic(auto, using(crate::proofs::Angles::minute_product))]
+    fn estimate(&self) -> u64
+        ensures { result ≤ right_angle }
+    {
+        let p = self.p;
+        let q = self.q;
+        let k = estimate_minutes(p, q);
+        let s = minute_sine(self.t, k);
+        let c = minute_sine(self.t, QUARTER_MINUTES - k);
+        let mas = c * p / RADIAN + s * q / RADIAN + 1;
+        let theta = MINUTE * k + excess(c * q + TEN_MINUTES * mas + mas / 2, s * p) / mas;
+        excess(theta, TEN_MINUTES).min(RIGHT_ANGLE)
+    }
 }
 
 // angle(p, q): the angle from 0 to 90° whose sine and cosine are as q and p.
-pub fn angle(t: &Table, p: u64, q: u64) -> u64
-    requires { IsTable t.now × (p ≤ angle_limit) × (q ≤ angle_limit) }
+pub fn angle(t: &SineTable, p: u64, q: u64) -> u64
+    requires { (p ≤ angle_limit) × (q ≤ angle_limit) }
     ensures { result ≡ angle p q }
 {
     // both are 0
     if p + q == 0 {
         return 0;
     }
-    let theta = estimate(t, p, q);
-    let tried = settle(t, p, q, theta);
-    match tried {
-        Trial::Settled(at) => search(t, p, q, at, at),
-        Trial::Open => search_near(t, p, q, theta, 1),
+    let test = Under { t, p, q };
+    let theta = test.estimate();
+    match test.settle(theta) {
+        Some(at) => search(&test, at, at),
+        None => search_near(&test, theta, 1),
     }
 }

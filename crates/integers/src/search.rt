@@ -10,28 +10,30 @@ const WIDENING: u64 = 16;
 
 const WIDENED_BY: u64 = 4;
 
-// A test of the numbers from 0 to MOST: 0 passes it, and it stays false once it is false.
+// A test of the numbers from 0 to `most`: 0 passes it, and it stays false once it is false.
 pub trait Test {
-    const MOST: u64;
-
-    ghost MOST: { ℕ };
+    ghost most: { ℕ };
 
     ghost passes: { Self → ℕ → Bool };
 
+    // The last number that is tested. No constant: a type that borrows has none with a clause.
+    fn most(&self) -> u64
+        ensures { result ≡ most };
+
     // Whether n passes.
     fn passes(&self, n: u64) -> bool
-        requires { n ≤ MOST }
+        requires { n ≤ most }
         ensures { result ≡ passes self.now n };
 
     // leaves room in 64 bits for a margin that is widened
-    ghost room: { MOST < 2 ^ 59 };
+    ghost room: { most < 2 ^ 59 };
 
-    ghost threshold: { (test : Self) → Threshold (passes test) MOST };
+    ghost threshold: { (test : Self) → Threshold (passes test) most };
 }
 
 // The greatest number up to `high` that passes, where `low` does: halves the span until one is left.
 pub fn search<T: Test>(test: &T, low: u64, high: u64) -> u64
-    requires { Span (T.passes test.now) T.MOST low high }
+    requires { Span (T.passes test.now) T.most low high }
     ensures { result ≡ greatest (T.passes test.now) high }
 {
     if low == high {
@@ -46,21 +48,21 @@ pub fn search<T: Test>(test: &T, low: u64, high: u64) -> u64
 }
 
 // Whether the greatest number that passes lies from `low` to `high`: `low` passes, and the number after
-// `high` does not or is past MOST.
+// `high` does not or is past the last.
 fn is_bracketed<T: Test>(test: &T, low: u64, high: u64) -> bool
-    requires { (low ≤ T.MOST) × (high ≤ T.MOST) }
-    ensures { result ≡ bracketed (T.passes test.now) T.MOST low high }
+    requires { (low ≤ T.most) × (high ≤ T.most) }
+    ensures { result ≡ bracketed (T.passes test.now) T.most low high }
 {
-    test.passes(low) && (high == T::MOST || !test.passes(high + 1))
+    test.passes(low) && (high == test.most() || !test.passes(high + 1))
 }
 
 // The greatest number that passes: searches the span of this margin about the estimate, or where that
-// does not hold it a wider one, up to all numbers from 0 to MOST.
+// does not hold it a wider one, up to all of them.
 pub fn search_near<T: Test>(test: &T, estimate: u64, margin: u64) -> u64
-    requires { About T.MOST estimate margin }
-    ensures { result ≡ greatest (T.passes test.now) T.MOST }
+    requires { About T.most estimate margin }
+    ensures { result ≡ greatest (T.passes test.now) T.most }
 {
-    let most = T::MOST;
+    let most = test.most();
     let low = excess(estimate, margin);
     let high = most - excess(most, estimate + margin);
     if is_bracketed(test, low, high) {
