@@ -1,68 +1,53 @@
 // The share of a tally's slots that each of two control loops has: when a loop gets a new slot, and which.
 #![tactic(auto)]
 
-ghost use Rattle.std.specs.Prelude.{◌≡◌, cond, ◌-◌};
-ghost use Rattle.shares.specs.Shares.{of_loop, held_in, sure_slots, granted, new_slot};
+ghost use Rattle.std.specs.Prelude.{◌≡◌, ◌-◌};
+ghost use Rattle.slots.specs.Slots.{index_in};
+ghost use Rattle.shares.specs.Shares.{held_in, sure_slots, granted, new_slot};
 
 use slots::{SLOT_COUNT, Slot, free_slot};
 
 // How many slots each loop is sure of.
-pub const SURE_SLOTS: u64 = 96;
+pub const SURE_SLOTS: usize = 96;
 
 // How many slots the two loops share beyond those.
-pub const SHARED_SLOTS: u64 = 64;
-
-// 1 where a cell of the loop has the slot, else 0.
-fn counted(slot: Slot, loop_number: u64) -> u64
-    ensures { result ≡ cond (of_loop loop_number slot) 1 0 }
-{
-    if slot.cell.loop_number == loop_number {
-        1
-    } else {
-        0
-    }
-}
+pub const SHARED_SLOTS: usize = 64;
 
 // How many slots the loop holds.
-fn held_by(slots: [Slot; 256], loop_number: u64) -> u64
-    ensures { result ≡ held_in slots loop_number }
+#[tactic(auto, using(crate::proofs::Counting::passing_is), unfolding(crate::specs::Shares::of_loop))]
+fn held_by(slots: &[Slot; SLOT_COUNT], loop_number: u64) -> usize
+    ensures { result ≡ held_in slots.now loop_number }
 {
-    let mut held = 0;
-    let mut i = 0;
-    while i < SLOT_COUNT {
-        let slot = slots[i];
-        held = held + counted(slot, loop_number);
-        i = i + 1;
-    }
-    held
+    slots
+        .iter()
+        .filter(|slot| slot.cell.loop_number == loop_number)
+        .count()
 }
 
-// How many of the slots that a loop holds are beyond those it is sure of.
-fn beyond_sure(held: u64) -> u64
-    ensures { result ≡ held - sure_slots }
+// How many of the slots that the loop holds are beyond those it is sure of.
+fn beyond_sure(slots: &[Slot; SLOT_COUNT], loop_number: u64) -> usize
+    ensures { result ≡ held_in slots.now loop_number - sure_slots }
 {
-    if held < SURE_SLOTS {
-        return 0;
-    }
-    held - SURE_SLOTS
+    held_by(slots, loop_number).saturating_sub(SURE_SLOTS)
 }
 
 // Whether the loop gets a new slot.
-fn is_granted(slots: [Slot; 256], loop_number: u64) -> bool
-    ensures { result ≡ granted (held_in slots) loop_number }
+#[tactic(auto, using(crate::proofs::Counting::passing_most), unfolding(crate::specs::Shares::granted, crate::specs::Shares::beyond))]
+fn is_granted(slots: &[Slot; SLOT_COUNT], loop_number: u64) -> bool
+    ensures { result ≡ granted (held_in slots.now) loop_number }
 {
-    if held_by(slots, loop_number) < SURE_SLOTS {
-        return true;
-    }
-    beyond_sure(held_by(slots, 1)) + beyond_sure(held_by(slots, 2)) < SHARED_SLOTS
+    held_by(slots, loop_number) < SURE_SLOTS
+        || beyond_sure(slots, 1) + beyond_sure(slots, 2) < SHARED_SLOTS
 }
 
-// The index of the slot that a new cell of the loop gets; SLOT_COUNT where there is none.
-pub fn new_slot(slots: [Slot; 256], loop_number: u64) -> usize
-    ensures { result ≡ new_slot loop_number slots }
+// The index of the slot that a new cell of the loop gets.
+#[tactic(auto, using(slots::proofs::Searching::position_is), unfolding(crate::specs::Shares::new_slot))]
+pub fn new_slot(slots: &[Slot; SLOT_COUNT], loop_number: u64) -> Option<usize>
+    ensures { result ≡ index_in slots.now (new_slot loop_number slots.now) }
 {
     if is_granted(slots, loop_number) {
-        return free_slot(slots);
+        free_slot(slots)
+    } else {
+        None
     }
-    SLOT_COUNT
 }

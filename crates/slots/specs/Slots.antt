@@ -1,6 +1,6 @@
 -- Document 02, e), "Power per cell", and f), "Two amplifiers, one tally": the slots of a tally, which cell of a loop has one, which is free, and a slot
 -- with one reading more.
-use Rattle.std.specs.Prelude.{ℕ, suc, ◌+◌, ◌-◌, ◌^◌, min, Bool, not, ◌&&◌, cond, List, [], ◌∷◌, leb, eqb, pos, get_or}
+use Rattle.std.specs.Prelude.{ℕ, suc, ◌+◌, ◌-◌, ◌^◌, min, Bool, not, ◌&&◌, cond, List, [], ◌∷◌, length, Option, Some, None, ltb, leb, eqb, pos, get_or}
 use Rattle.units.specs.Spans.{same}
 use Rattle.readings.specs.declared.Reading.{Reading}
 use Rattle.readings.specs.declared.Reading.TheVariants.{Power, Overloaded}
@@ -34,6 +34,10 @@ holds cell slot = not (free slot) && same_cell slot.cell cell
 unfoldable pub index_of : {A : Type 0} → (A → Bool) → List A → ℕ
 index_of test [] = 0
 index_of test (x ∷ xs) = cond (test x) 0 (suc (index_of test xs))
+
+-- an index into the list, where it is one
+abbrev pub index_in : {A : Type 0} → List A → ℕ → Option ℕ
+index_in xs i = cond (ltb i (length xs)) (Some i) None
 
 -- the cell's slot; an empty one where it has none
 unfoldable pub slot_of : LoopCell → List Slot → Slot

@@ -1,12 +1,11 @@
 // The slots of a tally: which cell of a loop has one, which is free, and a slot with one reading more.
 #![tactic(auto)]
 
-ghost use Rattle.std.specs.Prelude.{◌≡◌, false, ◌+◌, min};
+ghost use Rattle.std.specs.Prelude.{◌≡◌, false, position};
 ghost use Rattle.readings.specs.Readings.{reading_refusal};
-ghost use Rattle.slots.specs.Slots.{empty_slot, free, same_cell, holds, index_of, full, greatest_sum, with_reading};
+ghost use Rattle.slots.specs.Slots.{empty_slot, free, holds, full, with_reading};
 
 use readings::{Reading, nanowatts};
-use units::{both, is_within};
 
 // How many slots a tally has.
 pub const SLOT_COUNT: usize = 256;
@@ -14,12 +13,9 @@ pub const SLOT_COUNT: usize = 256;
 // The most readings of both kinds together that a cell takes.
 pub const READINGS_MOST: u64 = 1_000_000;
 
-// The greatest sum that a slot holds.
-const SUM_MOST: u64 = 0xffff_ffff_ffff_ffff;
-
 // A cell of a control loop: the loop's number, and the cell's numbers along the two axes. Cells of two loops are two cells.
 #[repr(C)]
-#[derive(Clone, Copy)]
+#[derive(Clone, Copy, Debug, PartialEq, Eq)]
 pub struct LoopCell {
     pub loop_number: u64,
     pub east: i64,
@@ -54,84 +50,46 @@ pub fn empty_slot() -> Slot
     }
 }
 
-// Whether both are one cell.
-fn is_same_cell(one: LoopCell, other: LoopCell) -> bool
-    ensures { result ≡ same_cell one other }
-{
-    both(
-        one.loop_number == other.loop_number,
-        both(
-            is_within(other.east, other.east, one.east),
-            is_within(other.north, other.north, one.north),
-        ),
-    )
-}
-
 // Whether no cell has the slot.
-fn is_free(slot: Slot) -> bool
-    ensures { result ≡ free slot }
+#[tactic(auto, unfolding(crate::specs::Slots::free))]
+fn is_free(slot: &Slot) -> bool
+    ensures { result ≡ free slot.now }
 {
     slot.cell.loop_number == 0
 }
 
 // Whether the cell has the slot.
-fn is_held_by(slot: Slot, cell: LoopCell) -> bool
-    ensures { result ≡ holds cell slot }
+#[tactic(auto, using(std::proofs::lemmas::Int::ints), unfolding(crate::specs::Slots::holds, crate::specs::Slots::same_cell, units::specs::Spans::same, units::specs::Spans::within))]
+fn is_held_by(slot: &Slot, cell: LoopCell) -> bool
+    ensures { result ≡ holds cell slot.now }
 {
-    if is_free(slot) {
-        return false;
-    }
-    is_same_cell(slot.cell, cell)
+    !is_free(slot) && slot.cell == cell
 }
 
-// The index of the cell's slot; SLOT_COUNT where it has none.
-pub fn slot_of(slots: [Slot; 256], cell: LoopCell) -> usize
-    ensures { result ≡ index_of (holds cell) slots }
+// The index of the cell's slot.
+pub fn slot_of(slots: &[Slot; SLOT_COUNT], cell: LoopCell) -> Option<usize>
+    ensures { result ≡ position (holds cell) slots.now }
 {
-    let mut i = 0;
-    while i < SLOT_COUNT {
-        let slot = slots[i];
-        if is_held_by(slot, cell) {
-            return i;
-        }
-        i = i + 1;
-    }
-    SLOT_COUNT
+    slots.iter().position(|slot| is_held_by(slot, cell))
 }
 
-// The index of the first free slot; SLOT_COUNT where there is none.
-pub fn free_slot(slots: [Slot; 256]) -> usize
-    ensures { result ≡ index_of free slots }
+// The index of the first free slot.
+pub fn free_slot(slots: &[Slot; SLOT_COUNT]) -> Option<usize>
+    ensures { result ≡ position free slots.now }
 {
-    let mut i = 0;
-    while i < SLOT_COUNT {
-        let slot = slots[i];
-        if is_free(slot) {
-            return i;
-        }
-        i = i + 1;
-    }
-    SLOT_COUNT
+    slots.iter().position(is_free)
 }
 
 // Whether the slot has as many readings as a cell takes.
-pub fn is_full(slot: Slot) -> bool
-    ensures { result ≡ full slot }
+#[tactic(auto, unfolding(crate::specs::Slots::full))]
+pub fn is_full(slot: &Slot) -> bool
+    ensures { result ≡ full slot.now }
 {
-    if READINGS_MOST <= slot.count {
-        return true;
-    }
-    READINGS_MOST - slot.count <= slot.overloads
-}
-
-// a + b, or the greatest u64 where that is less.
-fn capped_sum(a: u64, b: u64) -> u64
-    ensures { result ≡ min (a + b) greatest_sum }
-{
-    if SUM_MOST - a < b { SUM_MOST } else { a + b }
+    READINGS_MOST <= slot.count.saturating_add(slot.overloads)
 }
 
 // The cell's slot with one reading more.
+#[tactic(auto, using(std::proofs::lemmas::Bool::Decides::nat_tests), unfolding(crate::specs::Slots::full))]
 pub fn with_reading(reading: Reading, cell: LoopCell, slot: Slot) -> Slot
     requires { (reading_refusal reading ≡ 0) × (full slot ≡ false) }
     ensures { result ≡ with_reading reading cell slot }
@@ -139,7 +97,7 @@ pub fn with_reading(reading: Reading, cell: LoopCell, slot: Slot) -> Slot
     match reading {
         Reading::Power(milliwatts) => Slot {
             cell,
-            sum: capped_sum(slot.sum, nanowatts(milliwatts)),
+            sum: slot.sum.saturating_add(nanowatts(milliwatts)),
             count: slot.count + 1,
             overloads: slot.overloads,
         },

@@ -1,29 +1,84 @@
 -- Each outcome of a call, by the tests that lead to it. Assumes nothing.
-use mathlib.Core.Path.{◌≡◌, refl, sym, ap, ◌∙◌}
-use mathlib.Core.Bool.{true, false}
-use mathlib.Core.List.{List, []}
+use mathlib.Core.Path.{◌≡◌, refl, sym, ◌∙◌}
+use mathlib.Core.Bool.{Bool, true, false, cond, not}
+use mathlib.Core.List.{List}
 use Prim.Native.Nat.{ℕ, zero, suc, ◌≤◌, ◌<◌}
+use native.Mathlib.Omega.{arith}
 use lib.IntN.{ℤ}
-use lib.ListN.{length, set, replicate}
+use lib.Dec.{ltb}
+use lib.ListN.{length, set, get_or, replicate, get_or-eq_default}
 use lib.Seq.{set_out}
-use mir.Syntax.{w64}
-use mir.Val.{to_z, of_z, SFits}
 use mir.Facts.{to_z-of_z}
-use borrow.Author.Tests.{lt-ltb, le-ltb}
-use Rattle.units.specs.Refusals.{out_of_limits, full_cell, no_new_slot}
-use Rattle.units.proofs.Chains.{first_given}
-use Rattle.cells.specs.Cells.{accepted_side}
+use borrow.Author.Tests.{lt-ltb, le-ltb, ltb-true, ltb-false}
+use Rattle.std.specs.Prelude.{Some, None, Result, Ok, Err, position}
+use Rattle.units.specs.declared.refusals.Refusal.{Refusal}
+use Rattle.units.specs.Refusals.{full_cell, no_new_slot, number, refusal_number, unless}
+use Rattle.units.specs.Answers.{answered}
+use Rattle.units.proofs.Chains.{first_given, link_passed}
+use Rattle.units.proofs.AnswerLaws.{number_some, is_refused_lem}
+use Rattle.cells.proofs.Calls.{failed}
 use Rattle.readings.specs.declared.Reading.{Reading}
 use Rattle.readings.specs.Readings.{reading_refusal}
 use Rattle.slots.specs.declared.LoopCell.{LoopCell}
 use Rattle.slots.specs.declared.Slot.{Slot}
-use Rattle.slots.specs.Slots.{slot_count, empty_slot, holds, index_of, slot_of, full, with_reading}
-use Rattle.shares.specs.Shares.{place_of}
+use Rattle.slots.specs.Slots.{slot_count, empty_slot, holds, index_of, index_in, slot_of, full, with_reading}
+use Rattle.slots.proofs.Searching.{position_is}
+use Rattle.shares.specs.Shares.{place_of, new_slot}
 use Rattle.tallies.specs.declared.Tally.{Tally}
-use Rattle.tallies.specs.declared.TallyAnswer.TheVariants.{Done, Refused}
-use Rattle.tallies.specs.declared.SumsAnswer.TheVariants.{Refused as Unread}
-use Rattle.tallies.specs.declared.NextTally.{NextTally}
+use Rattle.tallies.specs.Tallies.{NextTally, Done, Refused, Unread, tally_answer}
 use Rattle.tallies.specs.Tallies.{side_refusal, named_refusal, slot_refusal, add_refusal, next, made, added, cleared, sums_in, read_from}
+
+-- what is handed on by its bits is read back as it was
+pub ruleset handed_on = (to_z-of_z)
+
+-- ---- an index that is found, and one that is not
+
+module _ {A : Type 0} (xs : List A) (i : ℕ) where
+  pub in_list : (k : ℕ) → index_in xs i ≡ Some k → (i ≡ k) × (k < length xs)
+  in_list k e = at (ltb i (length xs)) refl e
+    where
+      at : (t : Bool) → ltb i (length xs) ≡ t → cond t (Some i) None ≡ Some k → (i ≡ k) × (k < length xs)
+      at true h s = let same : i ≡ k = cc in (same, omega (arith, ltb-true i (length xs) h))
+      at false h s = let never : ⊥ = cc in absurd never
+
+  pub past_list : index_in xs i ≡ None → length xs ≤ i
+  past_list e = at (ltb i (length xs)) refl e
+    where
+      at : (t : Bool) → ltb i (length xs) ≡ t → cond t (Some i) None ≡ None → length xs ≤ i
+      at true h s = let never : ⊥ = cc in absurd never
+      at false h s = omega (arith, ltb-false i (length xs) h)
+
+module _ (cell : LoopCell) (slots : List Slot) where
+  -- the index of the cell's slot, as the search gives it
+  pub own_place : (k : ℕ) → position (holds cell) slots ≡ Some k → (index_of (holds cell) slots ≡ k) × (k < length slots)
+  own_place k e = in_list slots (index_of (holds cell) slots) k (sym (position_is (holds cell) slots) ∙ e)
+
+  pub no_place : position (holds cell) slots ≡ None → length slots ≤ index_of (holds cell) slots
+  no_place e = past_list slots (index_of (holds cell) slots) (sym (position_is (holds cell) slots) ∙ e)
+
+  pub slot_held : (k : ℕ) → position (holds cell) slots ≡ Some k → get_or slots k empty_slot ≡ slot_of cell slots
+  unfolding slot_of
+  slot_held k e = rw (own_place k e).0
+
+  pub none_held : position (holds cell) slots ≡ None → empty_slot ≡ slot_of cell slots
+  unfolding slot_of
+  none_held e = sym (get_or-eq_default slots empty_slot (no_place e))
+
+  pub place_held : (k : ℕ) → position (holds cell) slots ≡ Some k → Some k ≡ index_in slots (place_of cell slots)
+  unfolding place_of
+  place_held k e =
+      let own = own_place k e in
+      rw (own.0, lt-ltb k (length slots) own.1, lt-ltb k (length slots) own.1)
+
+  pub place_new : position (holds cell) slots ≡ None → index_in slots (new_slot cell.loop_number slots) ≡ index_in slots (place_of cell slots)
+  unfolding place_of
+  place_new e = rw (le-ltb (index_of (holds cell) slots) (length slots) (no_place e))
+
+-- ---- the answer by its number
+
+pub answered_by : (r : Result Unit Refusal) (n : ℕ) → refusal_number r ≡ n → tally_answer r ≡ answered Refused n Done
+answered_by (Ok done) n e = rw (← e)
+answered_by (Err r) n e = rw (← e) (sym (is_refused_lem Refused Done (number r) (number_some r)))
 
 -- ---- a call that is refused, and one that is not
 
@@ -39,112 +94,98 @@ next_refused (suc n) slots tally some = refl
 
 -- ---- making
 
-module _ (side : ℤ) (slot : Slot) (slot_is : slot ≡ empty_slot) where
-  pub made_refused : accepted_side side ≡ false → refused_with out_of_limits (record { side = side; slots = replicate slot_count slot }) ≡ made side
-  unfolding made side_refusal
-  made_refused h = rw (h, slot_is)
-
-  pub made_done : accepted_side side ≡ true → done_with (replicate slot_count slot) (record { side = side; slots = [] }) ≡ made side
-  unfolding made side_refusal
-  made_done h = rw (h, slot_is)
-
--- ---- the test of the cell
-
--- the side is handed on by its bits
-pub named_is :
-    (side : ℤ) (cell : LoopCell) {n : ℕ} →
-    SFits w64 side →
-    n ≡ named_refusal (to_z w64 (of_z w64 side)) cell →
-    named_refusal side cell ≡ n
-named_is side cell fits e = sym (e ∙ ap (λ (z : ℤ). named_refusal z cell) (to_z-of_z fits))
+pub made_is :
+    (side : ℤ) (slot : Slot) (r : Result Unit Refusal) →
+    slot ≡ empty_slot →
+    refusal_number r ≡ side_refusal side →
+    ◌≡◌ {A = NextTally} (record { tally = record { side = side; slots = replicate slot_count slot }; answer = tally_answer r }) (made side)
+unfolding made
+made_is side slot r slot_is e = rw (slot_is, answered_by r (side_refusal side) e)
 
 -- ---- the tests of the slots
 
 module _ (cell : LoopCell) (slots : List Slot) where
-  pub slot_full : full (slot_of cell slots) ≡ true → slot_refusal slots cell ≡ full_cell
-  unfolding slot_refusal
-  slot_full h = rw h
+  -- whether the slot that an add uses has room
+  abbrev room : ℕ
+  room = unless (not (full (slot_of cell slots))) full_cell 0
 
-  pub slot_none : full (slot_of cell slots) ≡ false → length slots ≤ place_of cell slots → slot_refusal slots cell ≡ no_new_slot
+  pub slot_full : (r : Refusal) → number r ≡ room → number r ≡ slot_refusal slots cell
   unfolding slot_refusal
-  slot_none room h = rw (room, le-ltb (place_of cell slots) (length slots) h)
+  slot_full r e =
+      let f = failed (not (full (slot_of cell slots))) full_cell r e in
+      rw (f.0) f.1
 
-  pub slot_some : full (slot_of cell slots) ≡ false → place_of cell slots < length slots → slot_refusal slots cell ≡ 0
+  has_room : 0 ≡ room → not (full (slot_of cell slots)) ≡ true
+  has_room e = (link_passed (not (full (slot_of cell slots))) 42 (sym e)).0
+
+  pub slot_none : 0 ≡ room → index_in slots (place_of cell slots) ≡ None → no_new_slot ≡ slot_refusal slots cell
   unfolding slot_refusal
-  slot_some room h = rw (room, lt-ltb (place_of cell slots) (length slots) h)
+  slot_none e none = rw (has_room e, le-ltb (place_of cell slots) (length slots) (past_list slots (place_of cell slots) none))
+
+  pub slot_some : 0 ≡ room → (at : ℕ) → index_in slots (place_of cell slots) ≡ Some at → 0 ≡ slot_refusal slots cell
+  unfolding slot_refusal
+  slot_some e at some =
+      let place = in_list slots (place_of cell slots) at some in
+      rw (has_room e, place.0, lt-ltb at (length slots) place.1)
 
 -- ---- adding
 
 module _ (tally : Tally) (cell : LoopCell) (reading : Reading) where
-  add_refused : (n : ℕ) → (n ≡ 0 → ⊥) → add_refusal tally cell reading ≡ n → refused_with n tally ≡ added tally cell reading
+  add_refused : (n : ℕ) → (n ≡ 0 → ⊥) → n ≡ add_refusal tally cell reading → refused_with n tally ≡ added tally cell reading
   unfolding added
-  add_refused n some e = rw e (next_refused n _ tally some)
+  add_refused n some e = rw (← e) (next_refused n _ tally some)
 
-  pub bad_cell : (n : ℕ) → (n ≡ 0 → ⊥) → named_refusal tally.side cell ≡ n → refused_with n tally ≡ added tally cell reading
+  pub bad_cell : (r : Refusal) → number r ≡ named_refusal tally.side cell → refused_with (number r) tally ≡ added tally cell reading
   unfolding add_refusal
-  bad_cell n some e = add_refused n some (rw e (first_given n _ some))
+  bad_cell r e = add_refused (number r) (number_some r) (rw (← e) (sym (first_given (number r) _ (number_some r))))
 
-  module _ (good-cell : named_refusal tally.side cell ≡ 0) where
-    pub bad_reading : (n : ℕ) → (n ≡ 0 → ⊥) → reading_refusal reading ≡ n → refused_with n tally ≡ added tally cell reading
+  module _ (good-cell : 0 ≡ named_refusal tally.side cell) where
+    pub bad_reading : (r : Refusal) → number r ≡ reading_refusal reading → refused_with (number r) tally ≡ added tally cell reading
     unfolding add_refusal
-    bad_reading n some e = add_refused n some (rw (good-cell, e) (first_given n _ some))
+    bad_reading r e = add_refused (number r) (number_some r) (rw (← good-cell, ← e) (sym (first_given (number r) _ (number_some r))))
 
-    module _ (good_reading : reading_refusal reading ≡ 0) where
-      by_slots : (n : ℕ) → slot_refusal tally.slots cell ≡ n → add_refusal tally cell reading ≡ n
+    module _ (good_reading : 0 ≡ reading_refusal reading) where
+      by_slots : slot_refusal tally.slots cell ≡ add_refusal tally cell reading
       unfolding add_refusal
-      by_slots n e = rw (good-cell, good_reading) e
+      by_slots = rw (← good-cell, ← good_reading)
 
-      pub bad_slot : (n : ℕ) → (n ≡ 0 → ⊥) → slot_refusal tally.slots cell ≡ n → refused_with n tally ≡ added tally cell reading
-      bad_slot n some e = add_refused n some (by_slots n e)
+      pub bad_slot : (r : Refusal) → number r ≡ slot_refusal tally.slots cell → refused_with (number r) tally ≡ added tally cell reading
+      bad_slot r e = add_refused (number r) (number_some r) (e ∙ by_slots)
 
       pub add_done :
-          (at : ℕ) (slot : Slot) →
-          place_of cell tally.slots ≡ at →
-          slot_of cell tally.slots ≡ slot →
-          full slot ≡ false →
-          at < length tally.slots →
-          done_with (set tally.slots at (with_reading reading cell slot)) tally ≡ added tally cell reading
+          (at : ℕ) →
+          0 ≡ room cell tally.slots →
+          index_in tally.slots (place_of cell tally.slots) ≡ Some at →
+          done_with (set tally.slots at (with_reading reading cell (slot_of cell tally.slots))) tally ≡ added tally cell reading
       unfolding added
-      add_done at slot place_is slot_is room h =
-          let some = slot_some cell tally.slots (ap full slot_is ∙ room) (rw place_is h) in
-          rw (by_slots 0 some, place_is, slot_is)
+      add_done at e some = rw (← by_slots, ← slot_some cell tally.slots e at some, (in_list tally.slots (place_of cell tally.slots) at some).0)
 
 -- ---- clearing
 
 module _ (tally : Tally) (cell : LoopCell) where
-  pub clear_refused : (n : ℕ) → (n ≡ 0 → ⊥) → named_refusal tally.side cell ≡ n → refused_with n tally ≡ cleared tally cell
+  pub clear_refused : (r : Refusal) → number r ≡ named_refusal tally.side cell → refused_with (number r) tally ≡ cleared tally cell
   unfolding cleared
-  clear_refused n some e = rw e (next_refused n _ tally some)
+  clear_refused r e = rw (← e) (next_refused (number r) _ tally (number_some r))
 
-  pub clear_done :
-      named_refusal tally.side cell ≡ 0 →
-      (at : ℕ) (slot : Slot) →
-      at ≡ index_of (holds cell) tally.slots →
-      slot ≡ empty_slot →
-      done_with (set tally.slots at slot) tally ≡ cleared tally cell
-  unfolding cleared
-  clear_done e at slot at-is slot_is = rw (e, at-is, slot_is)
+  module _ (good-cell : 0 ≡ named_refusal tally.side cell) where
+    pub clear_done :
+        (at : ℕ) (slot : Slot) →
+        position (holds cell) tally.slots ≡ Some at →
+        slot ≡ empty_slot →
+        done_with (set tally.slots at slot) tally ≡ cleared tally cell
+    unfolding cleared
+    clear_done at slot e slot_is = rw (← good-cell, (own_place cell tally.slots at e).0, slot_is)
 
-  pub clear_absent :
-      named_refusal tally.side cell ≡ 0 →
-      (at : ℕ) →
-      at ≡ index_of (holds cell) tally.slots →
-      length tally.slots ≤ at →
-      done_with tally.slots tally ≡ cleared tally cell
-  unfolding cleared
-  clear_absent e at at-is h = rw (e, ← at-is, set_out tally.slots at empty_slot h)
+    pub clear_absent : position (holds cell) tally.slots ≡ None → done_with tally.slots tally ≡ cleared tally cell
+    unfolding cleared
+    clear_absent e = rw (← good-cell, set_out tally.slots (index_of (holds cell) tally.slots) empty_slot (no_place cell tally.slots e))
 
   -- ---- reading
 
-  pub read_refused : (n : ℕ) → (n ≡ 0 → ⊥) → named_refusal tally.side cell ≡ n → record { tally = tally; answer = Unread n } ≡ read_from tally cell
+  pub read_refused : (r : Refusal) → number r ≡ named_refusal tally.side cell → Unread (number r) ≡ (read_from tally cell).answer
   unfolding read_from
-  read_refused zero some e = absurd (some refl)
-  read_refused (suc n) some e = rw e
+  read_refused r e = rw (← e) (sym (is_refused_lem Unread _ (number r) (number_some r)))
 
-  pub read_done :
-      named_refusal tally.side cell ≡ 0 →
-      (slot : Slot) →
-      slot_of cell tally.slots ≡ slot →
-      record { tally = tally; answer = sums_in slot } ≡ read_from tally cell
+  pub read_done : 0 ≡ named_refusal tally.side cell → sums_in (slot_of cell tally.slots) ≡ (read_from tally cell).answer
   unfolding read_from
-  read_done e slot slot_is = rw (e, slot_is)
+  read_done e = rw (← e)

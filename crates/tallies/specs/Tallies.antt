@@ -1,7 +1,8 @@
 -- Document 02, e), "Power per cell", and f), "Two amplifiers, one tally": what each call on a tally answers and what tally it gives next, for a tally of
 -- any contents.
-use Rattle.std.specs.Prelude.{ℕ, Bool, not, ◌||◌, List, ltb, eqb, ℤ, length, set, replicate}
-use Rattle.units.specs.Refusals.{out_of_limits, full_cell, no_new_slot, bad_loop, unless, first_refusal}
+use Rattle.std.specs.Prelude.{ℕ, Bool, not, ◌||◌, List, ltb, eqb, ℤ, length, set, replicate, Result, Ok, Err}
+use Rattle.units.specs.declared.refusals.Refusal.{Refusal}
+use Rattle.units.specs.Refusals.{out_of_limits, full_cell, no_new_slot, bad_loop, number, unless, first_refusal}
 use Rattle.units.specs.Answers.{answered, written}
 use Rattle.cells.specs.Cells.{accepted_side, numbers_refusal}
 use Rattle.readings.specs.declared.Reading.{Reading}
@@ -11,12 +12,9 @@ use Rattle.slots.specs.declared.Slot.{Slot}
 use Rattle.slots.specs.Slots.{slot_count, empty_slot, holds, index_of, slot_of, full, with_reading}
 use Rattle.shares.specs.Shares.{place_of}
 use Rattle.tallies.specs.declared.Tally.{Tally}
-use Rattle.tallies.specs.declared.TallyAnswer.{TallyAnswer}
-use Rattle.tallies.specs.declared.TallyAnswer.TheVariants.{Done, Refused}
-use Rattle.tallies.specs.declared.SumsAnswer.{SumsAnswer}
-use Rattle.tallies.specs.declared.SumsAnswer.TheVariants.{Sums, Refused as Unread}
-use Rattle.tallies.specs.declared.NextTally.{NextTally}
-use Rattle.tallies.specs.declared.ReadTally.{ReadTally}
+use Rattle.tallies.specs.declared.Sums.{Sums as CellSums}
+use Rattle.tallies.specs.declared.NextTally.{NextTally as GivenTally}
+use Rattle.tallies.specs.declared.ReadTally.{ReadTally as GivenRead}
 
 -- ---- refusals, "in this order and changing nothing"
 
@@ -41,6 +39,40 @@ unfoldable pub add_refusal : Tally → LoopCell → Reading → ℕ
 add_refusal tally cell reading = first_refusal (named_refusal tally.side cell) (first_refusal (reading_refusal reading) (slot_refusal tally.slots cell))
 
 -- ---- answers
+
+-- what making a tally, adding to it and clearing a cell answer
+pub data TallyAnswer : Type 0 where
+  Done : TallyAnswer
+  Refused : ℕ → TallyAnswer
+
+-- what reading a cell answers: the sum in nanowatts and how many readings of each kind it has, or the refusal number alone
+pub data SumsAnswer : Type 0 where
+  Sums : ℕ → ℕ → ℕ → SumsAnswer
+  Unread : ℕ → SumsAnswer
+
+-- an answer, and the tally after the call
+pub record NextTally : Type 0 where
+  pub tally : Tally
+  pub answer : TallyAnswer
+
+pub record ReadTally : Type 0 where
+  pub tally : Tally
+  pub answer : SumsAnswer
+
+-- what the calls return
+abbrev pub tally_answer : Result Unit Refusal → TallyAnswer
+tally_answer (Ok done) = Done
+tally_answer (Err refusal) = Refused (number refusal)
+
+abbrev pub sums_answer : Result CellSums Refusal → SumsAnswer
+sums_answer (Ok held) = Sums held.sum held.count held.overloads
+sums_answer (Err refusal) = Unread (number refusal)
+
+abbrev pub next_tally : GivenTally → NextTally
+next_tally given = record { tally = given.tally; answer = tally_answer given.answer }
+
+abbrev pub read_tally : GivenRead → ReadTally
+read_tally given = record { tally = given.tally; answer = sums_answer given.answer }
 
 -- the number of each case
 abbrev pub tally_told : TallyAnswer → ℕ

@@ -1,14 +1,30 @@
 // A running tally of power per cell of two control loops: document 02, e) and f). A tally goes in by value, and the next one comes back.
 #![tactic(auto)]
 
-ghost use Rattle.std.specs.Prelude.{◌≡◌, ◌<◌, set};
-ghost use Rattle.tallies.specs.Tallies.{is_loop, named_refusal, made, added, cleared, read_from, sums_in};
+ghost use Rattle.std.specs.Prelude.{◌≡◌, position};
+ghost use Rattle.slots.specs.Slots.{index_in, holds, slot_of};
+ghost use Rattle.shares.specs.Shares.{place_of};
+ghost use Rattle.units.specs.Refusals.{refusal_number};
+ghost use Rattle.tallies.specs.Tallies.{
+  side_refusal,
+  is_loop,
+  named_refusal,
+  made,
+  added,
+  cleared,
+  read_from,
+  sums_in,
+  sums_answer,
+  tally_answer,
+  next_tally,
+  read_tally,
+};
 
-use cells::{is_side, numbers_refusal};
-use readings::{Reading, reading_refusal};
+use cells::{Side, check_numbers};
+use readings::Reading;
 use shares::new_slot;
 use slots::{LoopCell, SLOT_COUNT, Slot, empty_slot, is_full, slot_of, with_reading};
-use units::refusals::{BAD_LOOP, FULL_CELL, NO_NEW_SLOT, OUT_OF_LIMITS};
+use units::refusals::Refusal;
 
 // Every bit pattern is a value of every field.
 #[repr(C)]
@@ -16,179 +32,166 @@ use units::refusals::{BAD_LOOP, FULL_CELL, NO_NEW_SLOT, OUT_OF_LIMITS};
 pub struct Tally {
     // the cells' side in cm
     pub side: i64,
-    pub slots: [Slot; 256],
+    pub slots: [Slot; SLOT_COUNT],
 }
 
-// What making a tally, adding to it and clearing a cell answer.
-#[derive(Clone, Copy)]
-pub enum TallyAnswer {
-    Done,
-    Refused(u8),
-}
-
-// What reading a cell answers: the sum in nanowatts, and how many readings of each kind it has.
-#[derive(Clone, Copy)]
-pub enum SumsAnswer {
-    Sums {
-        sum: u64,
-        count: u64,
-        overloads: u64,
-    },
-    Refused(u8),
+// What a cell holds: the sum in nanowatts, and how many readings of each kind it has.
+#[derive(Clone, Copy, Debug, PartialEq, Eq)]
+pub struct Sums {
+    pub sum: u64,
+    pub count: u64,
+    pub overloads: u64,
 }
 
 // An answer, and the tally after the call.
 #[derive(Clone, Copy)]
 pub struct NextTally {
     pub tally: Tally,
-    pub answer: TallyAnswer,
+    pub answer: Result<(), Refusal>,
 }
 
 // What reading a cell gives: its answer, and the tally as it was.
 #[derive(Clone, Copy)]
 pub struct ReadTally {
     pub tally: Tally,
-    pub answer: SumsAnswer,
+    pub answer: Result<Sums, Refusal>,
 }
 
 // Whether there is a loop of this number.
+#[tactic(auto, unfolding(crate::specs::Tallies::is_loop))]
 fn is_loop(loop_number: u64) -> bool
     ensures { result ≡ is_loop loop_number }
 {
-    if loop_number == 1 {
-        return true;
-    }
-    loop_number == 2
+    loop_number == 1 || loop_number == 2
 }
 
-// The refusal of a loop number, of a side or of a cell that no position has; 0 is none.
-fn named_refusal(side: i64, cell: LoopCell) -> u8
-    ensures { result ≡ named_refusal side cell }
+// Refuses a side that cells do not have.
+#[tactic(auto, using(crate::proofs::Outcomes::handed_on), unfolding(crate::specs::Tallies::side_refusal))]
+fn check_side(side: i64) -> Result<(), Refusal>
+    ensures { refusal_number result ≡ side_refusal side }
 {
-    if !is_loop(cell.loop_number) {
-        return BAD_LOOP;
-    }
-    numbers_refusal(side, cell.east, cell.north)
+    Side::try_from(side)?;
+    Ok(())
 }
 
-// The tally as it is, and the refusal.
-fn refused(tally: Tally, number: u8) -> NextTally
-    ensures { result ≡ record { tally = tally; answer = TallyAnswer.Refused number } }
+// Refuses a loop number, a side or a cell that no position has.
+#[tactic(auto, using(crate::proofs::Outcomes::handed_on), unfolding(crate::specs::Tallies::named_refusal))]
+fn check_name(side: i64, cell: LoopCell) -> Result<(), Refusal>
+    ensures { refusal_number result ≡ named_refusal side cell }
 {
-    NextTally {
-        tally,
-        answer: TallyAnswer::Refused(number),
-    }
+    Refusal::BadLoop.unless(is_loop(cell.loop_number))?;
+    check_numbers(side, cell.east, cell.north)
 }
 
-// The tally with another slot at an index.
-fn with_slot(mut tally: Tally, at: usize, slot: Slot) -> NextTally
-    requires { at < 256 }
-    ensures { result ≡ record { tally = record { side = tally.side; slots = set tally.slots at slot }; answer = TallyAnswer.Done } }
+// What is at the index of a cell's slot; an empty slot where it has none.
+#[tactic(auto, using(crate::proofs::Outcomes::own_place), unfolding(slots::specs::Slots::slot_of))]
+fn held_at(slots: &[Slot; SLOT_COUNT], cell: LoopCell, own: Option<usize>) -> Slot
+    requires { own ≡ position (holds cell) slots.now }
+    ensures { result ≡ slot_of cell slots.now }
 {
-    tally.slots[at] = slot;
-    NextTally {
-        tally,
-        answer: TallyAnswer::Done,
+    match own {
+        Some(at) => slots[at],
+        None => empty_slot(),
     }
 }
 
-// The tally as it is, and what a slot holds.
-fn read_as(tally: Tally, slot: Slot) -> ReadTally
-    ensures { result ≡ record { tally = tally; answer = sums_in slot } }
+// The index of the slot that an add to the cell uses.
+#[tactic(auto, using(crate::proofs::Outcomes::own_place), unfolding(shares::specs::Shares::place_of))]
+fn place_for(slots: &[Slot; SLOT_COUNT], cell: LoopCell, own: Option<usize>) -> Option<usize>
+    requires { own ≡ position (holds cell) slots.now }
+    ensures { result ≡ index_in slots.now (place_of cell slots.now) }
 {
-    ReadTally {
-        tally,
-        answer: SumsAnswer::Sums {
-            sum: slot.sum,
-            count: slot.count,
-            overloads: slot.overloads,
-        },
+    own.or_else(|| new_slot(slots, cell.loop_number))
+}
+
+// What a slot holds.
+fn sums_in(slot: Slot) -> Sums
+    ensures { sums_answer (Ok result) ≡ sums_in slot }
+{
+    Sums {
+        sum: slot.sum,
+        count: slot.count,
+        overloads: slot.overloads,
     }
 }
 
 impl Tally {
     // An empty tally for cells of a side.
     pub fn new(side: i64) -> NextTally
-        ensures { result ≡ made side }
+        ensures { next_tally result ≡ made side }
     {
+        let answer = check_side(side);
         let tally = Tally {
             side,
-            slots: [empty_slot(); 256],
+            slots: [empty_slot(); SLOT_COUNT],
         };
-        if !is_side(side) {
-            return refused(tally, OUT_OF_LIMITS);
-        }
-        NextTally {
-            tally,
-            answer: TallyAnswer::Done,
-        }
+        NextTally { tally, answer }
     }
 
     // Adds a reading to a cell of a loop.
-    pub fn add(self, cell: LoopCell, reading: Reading) -> NextTally
-        ensures { result ≡ added self cell reading }
+    pub fn add(mut self, cell: LoopCell, reading: Reading) -> NextTally
+        ensures { next_tally result ≡ added self cell reading }
     {
-        let bad_name = named_refusal(self.side, cell);
-        if bad_name != 0 {
-            return refused(self, bad_name);
+        let answer = self.try_add(cell, reading);
+        NextTally {
+            tally: self,
+            answer,
         }
-        let bad_reading = reading_refusal(reading);
-        if bad_reading != 0 {
-            return refused(self, bad_reading);
-        }
-        let slots = self.slots;
-        let own = slot_of(slots, cell);
-        if own < SLOT_COUNT {
-            let slot = slots[own];
-            if is_full(slot) {
-                return refused(self, FULL_CELL);
-            }
-            return with_slot(self, own, with_reading(reading, cell, slot));
-        }
-        let new = new_slot(slots, cell.loop_number);
-        if new < SLOT_COUNT {
-            return with_slot(self, new, with_reading(reading, cell, empty_slot()));
-        }
-        refused(self, NO_NEW_SLOT)
+    }
+
+    // Adds a reading, or changes nothing.
+    fn try_add(&mut self, cell: LoopCell, reading: Reading) -> Result<(), Refusal>
+        ensures { record { tally = self.new; answer = tally_answer result } ≡ added self.old cell reading }
+    {
+        check_name(self.side, cell)?;
+        reading.check()?;
+        let own = slot_of(&self.slots, cell);
+        let slot = held_at(&self.slots, cell, own);
+        Refusal::FullCell.unless(!is_full(&slot))?;
+        let place = place_for(&self.slots, cell, own).ok_or(Refusal::NoNewSlot)?;
+        self.slots[place] = with_reading(reading, cell, slot);
+        Ok(())
     }
 
     // Frees a cell's slot, with all that it holds.
-    pub fn clear(self, cell: LoopCell) -> NextTally
-        ensures { result ≡ cleared self cell }
+    pub fn clear(mut self, cell: LoopCell) -> NextTally
+        ensures { next_tally result ≡ cleared self cell }
     {
-        let bad_name = named_refusal(self.side, cell);
-        if bad_name != 0 {
-            return refused(self, bad_name);
-        }
-        let slots = self.slots;
-        let own = slot_of(slots, cell);
-        if own < SLOT_COUNT {
-            return with_slot(self, own, empty_slot());
-        }
+        let answer = self.try_clear(cell);
         NextTally {
             tally: self,
-            answer: TallyAnswer::Done,
+            answer,
         }
+    }
+
+    // Frees a cell's slot, or changes nothing.
+    fn try_clear(&mut self, cell: LoopCell) -> Result<(), Refusal>
+        ensures { record { tally = self.new; answer = tally_answer result } ≡ cleared self.old cell }
+    {
+        check_name(self.side, cell)?;
+        if let Some(own) = slot_of(&self.slots, cell) {
+            self.slots[own] = empty_slot();
+        }
+        Ok(())
     }
 
     // Reads a cell's sum and counts.
     pub fn read(self, cell: LoopCell) -> ReadTally
-        ensures { result ≡ read_from self cell }
+        ensures { read_tally result ≡ read_from self cell }
     {
-        let bad_name = named_refusal(self.side, cell);
-        if bad_name != 0 {
-            return ReadTally {
-                tally: self,
-                answer: SumsAnswer::Refused(bad_name),
-            };
+        let answer = self.sums_of(cell);
+        ReadTally {
+            tally: self,
+            answer,
         }
-        let slots = self.slots;
-        let own = slot_of(slots, cell);
-        if own < SLOT_COUNT {
-            let slot = slots[own];
-            return read_as(self, slot);
-        }
-        read_as(self, empty_slot())
+    }
+
+    // What a cell holds.
+    fn sums_of(&self, cell: LoopCell) -> Result<Sums, Refusal>
+        ensures { sums_answer result ≡ (read_from self.now cell).answer }
+    {
+        check_name(self.side, cell)?;
+        let own = slot_of(&self.slots, cell);
+        Ok(sums_in(held_at(&self.slots, cell, own)))
     }
 }
