@@ -10,17 +10,13 @@ use lib.Seq.{take-append_seam}
 use Rattle.units.specs.Refusals.{not_a_code, little_room, unless}
 use Rattle.units.specs.Answers.{answered, written}
 use Rattle.units.proofs.Chains.{both_passed}
-use Rattle.text.specs.declared.Numeral.{Numeral}
-use Rattle.text.specs.declared.Numeral.TheVariants.{Number, Other}
+use Rattle.text.specs.Numbers.{Numeral, Number, Other}
 use Rattle.text.specs.Cutting.{up_to, after}
-use Rattle.grid_codes.specs.declared.WrittenCode.TheVariants.{Length, Refused as Unwritten}
-use Rattle.grid_codes.specs.Codes.{code_text, code_refusal, write_refusal, into_first}
+use Rattle.grid_codes.specs.Codes.{Length, Unwritten, code_text, code_refusal, write_refusal, into_first}
 use Rattle.grid_codes.proofs.CellLaws.{has_code, coded}
 use Rattle.grid_codes.proofs.Lengths.{code_most}
 use Rattle.grid_codes.proofs.WritingLaws.{enough_room}
-use Rattle.code_reading.specs.declared.ReadCode.{ReadCode}
-use Rattle.code_reading.specs.declared.ReadCode.TheVariants.{Cell, Refused as Unread}
-use Rattle.code_reading.specs.Reading.{byte_N, byte_E, side_named, cell_numeral, of_numbers, numbers_of, of_side, code_of, read_told, told_of_text}
+use Rattle.code_reading.specs.Reading.{ReadCode, Cell, Unread, byte_N, byte_E, side_named, cell_numeral, of_numbers, numbers_of, of_side, code_of}
 use Rattle.code_reading.specs.Theorems.{WrittenRead, ReadWritten, UnreadExactly, ReadNumbers}
 use Rattle.code_reading.proofs.CodeLaws.{has_code_read, IsCode, is_code, read_exactly}
 
@@ -93,7 +89,7 @@ unread_exactly text = (there, λ h. unread text (λ side east north e. let is = 
         absurd (omega arith)
 
 -- A text that is longer than every code is none.
-pub long_unread : (text : List ℕ) → 18 < length text → code_of text ≡ Unread not_a_code
+long_unread : (text : List ℕ) → 18 < length text → code_of text ≡ Unread not_a_code
 long_unread text long = unread text too_long
   where
     too_long : (side east north : ℤ) → code_of text ≡ Cell side east north → ⊥
@@ -103,10 +99,5 @@ long_unread text long = unread text too_long
         omega (arith, ap length is.is_text)
 
 -- as the call answers it
-module _ (text : List ℕ) (long : 18 < length text) where
-  pub long_answered : Unread not_a_code ≡ code_of text
-  long_answered = sym (long_unread text long)
-
-  pub long_told : read_told (Unread not_a_code) ≡ told_of_text text
-  unfolding told_of_text
-  long_told = ap read_told long_answered
+pub long_answered : (text : List ℕ) → 18 < length text → Unread not_a_code ≡ code_of text
+long_answered text long = sym (long_unread text long)

@@ -3,23 +3,21 @@
 use mathlib.Core.Path.{◌≡◌, refl, sym, ap, ap₂, ◌∙◌}
 use mathlib.Core.Bool.{Bool, true, false, cond}
 use mathlib.Core.List.{List, ◌∷◌, ◌++◌}
-use Prim.Native.Nat.{ℕ, ◌+◌, ◌≤◌}
+use Prim.Native.Nat.{ℕ, ◌≤◌}
 use native.Mathlib.Omega.{arith}
-use lib.IntN.{ℤ, pos}
+use lib.Dec.{lit≤}
+use lib.IntN.{ℤ, pos, nat_abs}
 use lib.ListN.{length, length-append}
 use Rattle.units.specs.Spans.{within, same}
-use Rattle.cells.specs.Cells.{accepted_side}
-use Rattle.cells.proofs.Sides.{of_each_side, top_most}
-use Rattle.text.specs.declared.Numeral.{Numeral}
-use Rattle.text.specs.declared.Numeral.TheVariants.{Number, Other}
+use Rattle.cells.specs.Cells.{accepted_side, top}
+use Rattle.cells.proofs.Sides.{of_each_side}
+use Rattle.text.specs.Numbers.{Numeral, Number, Other, number_text}
 use Rattle.text.specs.Ascii.{same_text}
-use Rattle.text.specs.Numbers.{number_text}
 use Rattle.text.specs.Cutting.{up_to, after}
 use Rattle.text.proofs.Sameness.{same_is}
 use Rattle.text.proofs.Cutting.{Without, cut_before, cut_after, joined}
-use Rattle.code_reading.specs.declared.ReadCode.TheVariants.{Cell}
 use Rattle.grid_codes.specs.Codes.{side_text, code_text, code_refusal}
-use Rattle.code_reading.specs.Reading.{byte_N, byte_E, side_named, cell_numeral, of_numbers, numbers_of, of_side, code_of}
+use Rattle.code_reading.specs.Reading.{Cell, byte_N, byte_E, side_named, cell_numeral, of_numbers, numbers_of, of_side, code_of}
 use Rattle.code_reading.specs.Theorems.{ReadExactly, OneText}
 use Rattle.grid_codes.proofs.CellLaws.{HasCode, has_code, coded}
 use Rattle.code_reading.proofs.NumeralLaws.{numeral_of, text_without, ReadAs, numeral_is}
@@ -60,6 +58,9 @@ side_is text side e = at (tested (pos 10_000)) (tested (pos 100_000)) (tested (p
     at false false false p q r e = let n : ◌≡◌ {A = ℕ} 0 1 = cc in absurd (omega arith)
 
 -- ---- a code is read
+
+top_most : (side : ℤ) → accepted_side side ≡ true → top (nat_abs side) ≤ 500_000
+top_most = of_each_side (λ side. top (nat_abs side) ≤ 500_000) (lit≤ tt) (lit≤ tt) (lit≤ tt)
 
 -- the text after the N
 abbrev numbers_text : ℤ → ℤ → List ℕ

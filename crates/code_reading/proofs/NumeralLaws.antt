@@ -12,9 +12,7 @@ use Rattle.proof_kit.proofs.Order.{order, le_le_z, le_z_true, pos-≤ℤ}
 use Rattle.integers.proofs.Greatest.{both}
 use Rattle.units.proofs.Spans.{Between}
 use Rattle.cells.specs.Cells.{top}
-use Rattle.text.specs.declared.Numeral.{Numeral}
-use Rattle.text.specs.declared.Numeral.TheVariants.{Number, Other}
-use Rattle.text.specs.Numbers.{is_digit, are_digits, leading_zero, unsigned_of, number_text}
+use Rattle.text.specs.Numbers.{Numeral, Number, Other, is_digit, are_digits, leading_zero, unsigned_of, number_text}
 use Rattle.text.proofs.Cutting.{Without, without_more}
 use Rattle.text.proofs.Digits.{decimal_plain, decimal_digits, text_natural}
 use Rattle.text.proofs.Numerals.{decimal_read, number_read, read_printed}

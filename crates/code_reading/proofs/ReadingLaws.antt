@@ -1,16 +1,15 @@
 -- The cases of a text that is read, by where it is cut and by what its parts are: a text that is not cut has nothing after the cut, and nothing is no
 -- number. Assumes nothing.
-use mathlib.Core.Path.{◌≡◌, refl, ap, ap₂, ◌∙◌}
+use mathlib.Core.Path.{◌≡◌, refl, ap, ◌∙◌}
 use mathlib.Core.List.{List, []}
 use Prim.Native.Nat.{ℕ}
 use lib.IntN.{ℤ}
+use lib.ListN.{length}
 use Rattle.units.specs.Refusals.{not_a_code}
-use Rattle.text.specs.declared.Numeral.{Numeral}
-use Rattle.text.specs.declared.Numeral.TheVariants.{Number, Other}
-use Rattle.text.specs.Numbers.{unsigned_of}
-use Rattle.text.specs.Cutting.{up_to, after}
-use Rattle.code_reading.specs.declared.ReadCode.TheVariants.{Cell, Refused as Unread}
-use Rattle.code_reading.specs.Reading.{byte_N, byte_E, side_named, cell_numeral, of_numbers, numbers_of, of_side, code_of}
+use Rattle.text.specs.Numbers.{Numeral, Number, Other, unsigned_of}
+use Rattle.text.specs.Cutting.{index_of, up_to, after}
+use Rattle.text.proofs.Cutting.{no_cut}
+use Rattle.code_reading.specs.Reading.{Unread, byte_N, byte_E, side_named, cell_numeral, of_numbers, numbers_of, of_side, code_of}
 
 nothing_read : (side : ℤ) → cell_numeral side [] ≡ Other
 unfolding cell_numeral unsigned_of
@@ -19,7 +18,7 @@ nothing_read side = refl
 -- ---- the numbers
 
 module _ (side : ℤ) (text : List ℕ) where
-  pub east_none : cell_numeral side (after byte_E text) ≡ Other → numbers_of side text ≡ Unread not_a_code
+  east_none : cell_numeral side (after byte_E text) ≡ Other → numbers_of side text ≡ Unread not_a_code
   unfolding numbers_of
   east_none e = ap (λ (x : Numeral). of_numbers side x (cell_numeral side (up_to byte_E text))) e
 
@@ -31,16 +30,11 @@ module _ (side : ℤ) (text : List ℕ) where
       either (Number east) = refl
       either Other = refl
 
-  pub numbers_uncut : after byte_E text ≡ [] → numbers_of side text ≡ Unread not_a_code
-  numbers_uncut e = east_none (ap (cell_numeral side) e ∙ nothing_read side)
+  nothing_after : after byte_E text ≡ [] → numbers_of side text ≡ Unread not_a_code
+  nothing_after e = east_none (ap (cell_numeral side) e ∙ nothing_read side)
 
-  pub both_numbers :
-      (east north : ℤ) →
-      cell_numeral side (after byte_E text) ≡ Number east →
-      cell_numeral side (up_to byte_E text) ≡ Number north →
-      numbers_of side text ≡ Cell side east north
-  unfolding numbers_of
-  both_numbers east north e n = ap₂ (of_numbers side) e n
+  pub numbers_uncut : index_of byte_E text ≡ length text → numbers_of side text ≡ Unread not_a_code
+  numbers_uncut none = nothing_after (no_cut byte_E text _ refl none)
 
 -- ---- the side
 
@@ -49,14 +43,10 @@ module _ (text : List ℕ) where
   unfolding code_of
   unnamed e = ap (λ (m : Numeral). of_side m (after byte_N text)) e
 
-  pub named_as : (side : ℤ) → side_named (up_to byte_N text) ≡ Number side → code_of text ≡ numbers_of side (after byte_N text)
+  pub code_uncut : index_of byte_N text ≡ length text → code_of text ≡ Unread not_a_code
   unfolding code_of
-  named_as side e = ap (λ (m : Numeral). of_side m (after byte_N text)) e
-
-  pub code_uncut : after byte_N text ≡ [] → code_of text ≡ Unread not_a_code
-  unfolding code_of
-  code_uncut e = ap (of_side (side_named (up_to byte_N text))) e ∙ either (side_named (up_to byte_N text))
+  code_uncut none = ap (of_side (side_named (up_to byte_N text))) (no_cut byte_N text _ refl none) ∙ either (side_named (up_to byte_N text))
     where
       either : (m : Numeral) → of_side m [] ≡ Unread not_a_code
-      either (Number side) = numbers_uncut side [] refl
+      either (Number side) = nothing_after side [] refl
       either Other = refl

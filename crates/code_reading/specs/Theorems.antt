@@ -4,11 +4,8 @@ use Rattle.std.specs.Prelude.{ℕ, ◌≤◌, ◌≡◌, ◌↔◌, List, ℤ, p
 use Prim.Native.String.{String}
 use Rattle.units.specs.Refusals.{not_a_code}
 use Rattle.text.specs.Ascii.{ascii}
-use Rattle.grid_codes.specs.declared.WrittenCode.{WrittenCode}
-use Rattle.grid_codes.specs.declared.WrittenCode.TheVariants.{Length}
-use Rattle.grid_codes.specs.Codes.{code_text, code_refusal, into_first, CodeWritten}
-use Rattle.code_reading.specs.declared.ReadCode.TheVariants.{Cell, Refused as Unread}
-use Rattle.code_reading.specs.Reading.{code_of}
+use Rattle.grid_codes.specs.Codes.{WrittenCode, Length, code_text, code_refusal, into_first, CodeWritten}
+use Rattle.code_reading.specs.Reading.{Cell, Unread, code_of}
 
 -- ---- there and back
 

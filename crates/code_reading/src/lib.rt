@@ -1,87 +1,95 @@
 // Reads the code of a cell in the INSPIRE geographical grid systems: document 02, c). Sides are in cm.
 #![tactic(auto)]
 
-ghost use Rattle.std.specs.Prelude.{◌≡◌, true};
-ghost use Rattle.cells.specs.Cells.{accepted_side};
-ghost use Rattle.code_reading.specs.Reading.{side_named, cell_numeral, numbers_of, code_of, read_told, told_of_text};
+ghost use Rattle.std.specs.Prelude.{◌≡◌, pos};
+ghost use Rattle.cells.specs.Cells.{side_length};
+ghost use Rattle.text.specs.Numbers.{numeral};
+ghost use Rattle.code_reading.specs.Reading.{
+  side_named,
+  side_numeral,
+  cell_numeral,
+  numbers_of,
+  code_of,
+  code_found,
+  code_answer,
+  read_told,
+  told_of_text,
+};
 
-use cells::{SIDE_1_KM, SIDE_10_KM, SIDE_100_M, top_number};
+use cells::Side;
 use grid_codes::CODE_MOST;
-use text::{Numeral, find, has_leading_zero, is_same, read_unsigned};
-use units::refusals::NOT_A_CODE;
+use text::{has_leading_zero, read_unsigned, split_once};
+use units::refusals::Refusal;
 
-// The side and the numbers of the cell, or the refusal number alone.
-#[derive(Clone, Copy)]
-pub enum ReadCode {
-    Cell { side: i64, east: i64, north: i64 },
-    Refused(u8),
+// A cell: its side, and its numbers along the two axes.
+#[derive(Clone, Copy, Debug, PartialEq, Eq)]
+pub struct CodeCell {
+    pub side: Side,
+    pub east: i64,
+    pub north: i64,
 }
 
 // The side that a text names.
-fn side_named(text: &[u8]) -> Numeral
-    ensures { result ≡ side_named text.now }
+#[tactic(auto, using(text::proofs::Sameness::same_compared), unfolding(crate::specs::Reading::side_named, grid_codes::specs::Codes::side_text, units::specs::Spans::same, units::specs::Spans::within))]
+fn side_named(text: &[u8]) -> Option<Side>
+    ensures { side_numeral result ≡ side_named text.now }
 {
-    if is_same(text, b"100m") {
-        return Numeral::Number(SIDE_100_M);
+    if text == b"100m".as_slice() {
+        Some(Side::Metres100)
+    } else if text == b"1km".as_slice() {
+        Some(Side::Kilometre)
+    } else if text == b"10km".as_slice() {
+        Some(Side::Kilometres10)
+    } else {
+        None
     }
-    if is_same(text, b"1km") {
-        return Numeral::Number(SIDE_1_KM);
-    }
-    if is_same(text, b"10km") {
-        return Numeral::Number(SIDE_10_KM);
-    }
-    Numeral::Other
 }
 
 // The number of a cell along an axis, from its digits.
-fn read_cell_number(side: i64, digits: &[u8]) -> Numeral
-    requires { accepted_side side ≡ true }
-    ensures { result ≡ cell_numeral side digits.now }
+#[tactic(auto, unfolding(crate::specs::Reading::cell_numeral))]
+fn read_cell_number(side: Side, digits: &[u8]) -> Option<i64>
+    ensures { numeral result ≡ cell_numeral (pos (side_length side)) digits.now }
 {
     if has_leading_zero(digits) {
-        return Numeral::Other;
+        return None;
     }
-    let Numeral::Number(number) = read_unsigned(false, digits) else {
-        return Numeral::Other;
-    };
-    if top_number(side) < number {
-        return Numeral::Other;
+    let number = read_unsigned(false, digits)?;
+    if number <= side.top_number() {
+        Some(number)
+    } else {
+        None
     }
-    Numeral::Number(number)
 }
 
 // The cell of a side and of the text after its N.
-fn read_numbers(side: i64, text: &[u8]) -> ReadCode
-    requires { accepted_side side ≡ true }
-    ensures { result ≡ numbers_of side text.now }
+#[tactic(auto, using(crate::proofs::ReadingLaws::north_none, crate::proofs::ReadingLaws::numbers_uncut), unfolding(crate::specs::Reading::numbers_of))]
+fn read_numbers(side: Side, text: &[u8]) -> Option<CodeCell>
+    ensures { code_found result ≡ numbers_of (pos (side_length side)) text.now }
 {
-    let end = find(text, 0, text.len(), b'E');
-    if end == text.len() {
-        return ReadCode::Refused(NOT_A_CODE);
-    }
-    let Numeral::Number(north) = read_cell_number(side, &text[..end]) else {
-        return ReadCode::Refused(NOT_A_CODE);
-    };
-    let Numeral::Number(east) = read_cell_number(side, &text[end + 1..]) else {
-        return ReadCode::Refused(NOT_A_CODE);
-    };
-    ReadCode::Cell { side, east, north }
+    let (north, east) = split_once(text, b'E')?;
+    Some(CodeCell {
+        side,
+        north: read_cell_number(side, north)?,
+        east: read_cell_number(side, east)?,
+    })
 }
 
-// Any bytes: the customer's call that reads a cell's code. No more bytes are looked at than a code may have.
-#[tactic(auto, using(crate::proofs::AnswerLaws::long_answered, crate::proofs::AnswerLaws::long_told))]
-pub fn read_code(text: &[u8]) -> ReadCode
-    ensures { (result ≡ code_of text.now) × (read_told result ≡ told_of_text text.now) }
+// The cell whose code a text is. No more bytes are looked at than a code may have.
+#[tactic(auto, using(crate::proofs::AnswerLaws::long_answered, crate::proofs::ReadingLaws::unnamed, crate::proofs::ReadingLaws::code_uncut), unfolding(crate::specs::Reading::code_of))]
+fn find_cell(text: &[u8]) -> Option<CodeCell>
+    ensures { code_found result ≡ code_of text.now }
 {
     if CODE_MOST < text.len() {
-        return ReadCode::Refused(NOT_A_CODE);
+        return None;
     }
-    let end = find(text, 0, text.len(), b'N');
-    if end == text.len() {
-        return ReadCode::Refused(NOT_A_CODE);
-    }
-    let Numeral::Number(side) = side_named(&text[..end]) else {
-        return ReadCode::Refused(NOT_A_CODE);
-    };
-    read_numbers(side, &text[end + 1..])
+    let (side, numbers) = split_once(text, b'N')?;
+    read_numbers(side_named(side)?, numbers)
+}
+
+// Any bytes: the customer's call that reads a cell's code.
+#[tactic(auto, unfolding(crate::specs::Reading::told_of_text))]
+pub fn read_code(text: &[u8]) -> Result<CodeCell, Refusal>
+    ensures { let answer = code_answer result in (answer ≡ code_of text.now) × (read_told answer ≡ told_of_text text.now) }
+{
+    find_cell(text).ok_or(Refusal::NotACode)
 }

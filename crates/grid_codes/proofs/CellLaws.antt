@@ -1,6 +1,6 @@
 -- Which cells have a code: the chain of tests gives 0 exactly where the side is accepted and both numbers are from 0 to the top number. Assumes
 -- nothing.
-use mathlib.Core.Path.{◌≡◌, refl, sym}
+use mathlib.Core.Path.{◌≡◌, refl, sym, ◌∙◌}
 use mathlib.Core.Bool.{true, ◌&&◌, false≢true}
 use Prim.Native.Nat.{ℕ}
 use native.Mathlib.Omega.{arith}
@@ -9,9 +9,11 @@ use lib.Signed.{le_z}
 use Rattle.proof_kit.proofs.Order.{le_le_z, pos-≤ℤ}
 use Rattle.integers.proofs.Greatest.{both}
 use Rattle.units.specs.Spans.{inside}
-use Rattle.units.specs.Refusals.{negative_cell, unless}
+use Rattle.units.specs.declared.refusals.Refusal.{Refusal}
+use Rattle.units.specs.Refusals.{negative_cell, number, unless}
+use Rattle.units.proofs.AnswerLaws.{number_some}
 use Rattle.units.proofs.Spans.{Between, within_size, size_inside}
-use Rattle.units.proofs.Chains.{link_passed, both_passed}
+use Rattle.units.proofs.Chains.{link_passed, both_passed, first_given}
 use Rattle.cells.specs.Cells.{accepted_side, top, numbered, numbers_refusal}
 use Rattle.grid_codes.specs.Codes.{code_refusal}
 
@@ -54,3 +56,16 @@ coded side east north has =
   where
     not_negative : (z : ℤ) → pos (nat_abs z) ≡ z → le_z (pos 0) z ≡ true
     not_negative z e = rw (sym e) (le_le_z (pos-≤ℤ {m = 0} {n = nat_abs z} (omega arith)))
+
+-- ---- the tests of a side and of numbers that were made
+
+module _ (side east north : ℤ) where
+  -- what numbers are refused by comes before the signs
+  pub refused_first : (r : Refusal) → number r ≡ numbers_refusal side east north → number r ≡ code_refusal side east north
+  unfolding code_refusal
+  refused_first r e =
+      e ∙ sym (first_given (numbers_refusal side east north) _ (λ (none : numbers_refusal side east north ≡ 0). number_some r (e ∙ none)))
+
+  pub signs_tested : numbers_refusal side east north ≡ 0 → unless (le_z (pos 0) east && le_z (pos 0) north) negative_cell 0 ≡ code_refusal side east north
+  unfolding code_refusal
+  signs_tested none = rw none refl

@@ -1,18 +1,23 @@
 -- What a call that writes leaves, by its refusal, and which numbers refuse. Assumes nothing.
-use mathlib.Core.Path.{◌≡◌, refl, ap, ◌∙◌}
+use mathlib.Core.Path.{◌≡◌, refl, sym, ap, ◌∙◌}
 use mathlib.Core.List.{List, [], ◌∷◌}
 use Prim.Native.Nat.{ℕ, zero, suc, ◌<◌, ◌≤◌}
 use native.Mathlib.Omega.{arith}
 use borrow.Author.Tests.{le-leb, lt-leb}
-use lib.IntN.{ℤ}
+use lib.Dec.{leb}
+use lib.IntN.{ℤ, pos}
 use lib.ListN.{length}
-use Rattle.units.specs.Refusals.{out_of_limits, negative_cell, little_room}
+use Rattle.units.specs.declared.refusals.Refusal.{Refusal}
+use Rattle.units.specs.Refusals.{out_of_limits, negative_cell, little_room, number, unless}
+use Rattle.units.proofs.AnswerLaws.{number_some}
 use Rattle.units.specs.Answers.{answered}
 use Rattle.units.proofs.Chains.{chain, Gives, first_given, another}
-use Rattle.cells.specs.Cells.{numbers_refusal}
-use Rattle.grid_codes.specs.declared.WrittenCode.TheVariants.{Length, Refused as Unwritten}
-use Rattle.grid_codes.specs.Codes.{code_text, code_refusal, write_refusal, into_first, CodeWritten}
+use Rattle.cells.specs.declared.Side.{Side}
+use Rattle.cells.specs.Cells.{numbers_refusal, side_length}
+use Rattle.grid_codes.specs.Codes.{Length, Unwritten, code_text, code_refusal, write_refusal, into_first, CodeWritten}
 use Rattle.grid_codes.specs.Theorems.{WriteNumbers}
+use Rattle.grid_codes.proofs.CellLaws.{has_code}
+use Rattle.grid_codes.proofs.Lengths.{code_most}
 
 -- ---- the numbers
 
@@ -44,6 +49,10 @@ module _ (side east north : ℤ) where
     unfolding write_refusal
     enough_room room h = rw (none, le-leb (length (code_text side east north)) room h)
 
+  -- a cell with a code: the code of its side is that of the side's length, and has 18 bytes at most
+  pub coded_most : (s : Side) → pos (side_length s) ≡ side → 0 ≡ code_refusal side east north → length (code_text (pos (side_length s)) east north) ≤ 18
+  coded_most s is none = rw is (code_most side east north (has_code side east north (sym none)))
+
   module _ (bytes : List ℕ) where
     pub code_unwritten :
         (n : ℕ) →
@@ -60,3 +69,18 @@ module _ (side east north : ℤ) where
         n ≡ length (code_text side east north) →
         CodeWritten side east north bytes bytes' (Length n)
     code_written e is long = record { bytes_are = rw e is; answer_is = rw e (ap Length long); answer_tells = rw (e, long) refl }
+
+    -- the refusal of a cell that has no code, and of too little room
+    pub cell_refused : (r : Refusal) → number r ≡ code_refusal side east north → CodeWritten side east north bytes bytes (Unwritten (number r))
+    cell_refused r is =
+        code_unwritten (number r)
+        (refused_first (length bytes) (λ (none : code_refusal side east north ≡ 0). number_some r (is ∙ none)) ∙ sym is)
+        (number_some r)
+
+    pub room_refused :
+        0 ≡ code_refusal side east north →
+        (r : Refusal) →
+        number r ≡ unless (leb (length (code_text side east north)) (length bytes)) little_room 0 →
+        CodeWritten side east north bytes bytes (Unwritten (number r))
+    unfolding write_refusal
+    room_refused none r is = code_unwritten (number r) (rw (sym none) (sym is)) (number_some r)

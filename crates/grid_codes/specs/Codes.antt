@@ -1,14 +1,13 @@
 -- Document 02, c): the code of a cell in the INSPIRE geographical grid systems, and how it is written. Sides are in cm; bytes are ASCII.
-use Rattle.std.specs.Prelude.{ℕ, ◌≡◌, ◌&&◌, cond, List, [], ◌++◌, leb, ℤ, pos, length, drop}
+use Rattle.std.specs.Prelude.{ℕ, ◌≡◌, ◌&&◌, cond, List, [], ◌++◌, leb, ℤ, pos, length, drop, Result, Ok, Err}
 use Rattle.std.specs.Int.Signed.{le_z}
 use Rattle.units.specs.Spans.{same}
-use Rattle.units.specs.Refusals.{negative_cell, little_room, unless, first_refusal}
+use Rattle.units.specs.declared.refusals.Refusal.{Refusal}
+use Rattle.units.specs.Refusals.{negative_cell, little_room, number, unless, first_refusal}
 use Rattle.units.specs.Answers.{answered, written, Counted, counted}
 use Rattle.cells.specs.Cells.{numbers_refusal}
 use Rattle.text.specs.Ascii.{ascii}
 use Rattle.text.specs.Numbers.{pair_text}
-use Rattle.grid_codes.specs.declared.WrittenCode.{WrittenCode}
-use Rattle.grid_codes.specs.declared.WrittenCode.TheVariants.{Length, Refused as Unwritten}
 
 -- ---- the text
 
@@ -35,6 +34,15 @@ code_refusal side east north =
 unfoldable pub write_refusal : ℤ → ℤ → ℤ → ℕ → ℕ
 write_refusal side east north room =
     first_refusal (code_refusal side east north) (unless (leb (length (code_text side east north)) room) little_room 0)
+
+-- how many bytes the code has, or the refusal number alone
+pub data WrittenCode : Type 0 where
+  Length : ℕ → WrittenCode
+  Unwritten : ℕ → WrittenCode
+
+abbrev pub written_answer : Result ℕ Refusal → WrittenCode
+written_answer (Ok bytes) = Length bytes
+written_answer (Err refusal) = Unwritten (number refusal)
 
 -- the number and the length of each case
 abbrev pub written_told : WrittenCode → Counted

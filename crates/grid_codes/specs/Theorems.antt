@@ -4,8 +4,7 @@ use Rattle.std.specs.Prelude.{ℕ, ◌≤◌, ◌≡◌, List, [], ◌∷◌, �
 use Rattle.units.specs.Refusals.{out_of_limits, negative_cell, little_room, OneOf}
 use Rattle.cells.specs.Cells.{top}
 use Rattle.text.specs.Ascii.{ascii}
-use Rattle.grid_codes.specs.declared.WrittenCode.TheVariants.{Refused as Unwritten}
-use Rattle.grid_codes.specs.Codes.{code_text, code_refusal, write_refusal, CodeWritten}
+use Rattle.grid_codes.specs.Codes.{Unwritten, code_text, code_refusal, write_refusal, CodeWritten}
 
 -- ---- how long codes are
 

@@ -1,74 +1,59 @@
 // Writes the code of a cell in the INSPIRE geographical grid systems: document 02, c). Sides are in cm.
 #![tactic(auto)]
 
-ghost use Rattle.std.specs.Prelude.{◌≡◌, true, ◌≤◌, length};
-ghost use Rattle.cells.specs.Cells.{accepted_side};
-ghost use Rattle.text.specs.Pasting.{Put};
-ghost use Rattle.grid_codes.specs.Codes.{side_text, code_text, code_refusal, CodeWritten};
+ghost use Rattle.std.specs.Prelude.{◌≡◌, ◌≤◌, length, pos, IfOk};
+ghost use Rattle.units.specs.Refusals.{refusal_number};
+ghost use Rattle.cells.specs.Cells.{side_length};
+ghost use Rattle.grid_codes.specs.Codes.{side_text, code_text, code_refusal, written_answer, CodeWritten};
 
-use cells::{SIDE_1_KM, SIDE_100_M, numbers_refusal};
-use text::{put_bytes, put_pair};
-use units::both;
-use units::refusals::{LITTLE_ROOM, NEGATIVE_CELL, unless};
-
-// How many bytes of the lent ones the code has, or the refusal number alone.
-#[derive(Clone, Copy)]
-pub enum WrittenCode {
-    Length(u64),
-    Refused(u8),
-}
+use arrayvec::ArrayString;
+use cells::Side;
+use text::push_pair;
+use units::refusals::Refusal;
 
 // No code has more bytes.
 pub const CODE_MOST: usize = 18;
 
-// The refusal of a cell that has no code; 0 is none.
-fn code_refusal(side: i64, east: i64, north: i64) -> u8
-    ensures { result ≡ code_refusal side east north }
+// The side of a cell that has a code.
+fn coded_side(length: i64, east: i64, north: i64) -> Result<Side, Refusal>
+    ensures refusal { refusal_number result ≡ code_refusal length east north }
+    ensures given { IfOk result (λ side. pos (side_length side) ≡ length) }
 {
-    let refusal = numbers_refusal(side, east, north);
-    if refusal != 0 {
-        return refusal;
-    }
-    unless(both(0 <= east, 0 <= north), NEGATIVE_CELL, 0)
+    let side = Side::try_from(length)?;
+    side.check_numbers(east, north)?;
+    Refusal::NegativeCell.unless(0 <= east && 0 <= north)?;
+    Ok(side)
 }
 
-// Writes the text of a side and answers the index after it.
-fn put_side(out: &mut [u8], side: i64) -> usize
-    requires side_value { accepted_side side ≡ true }
-    requires side_in_bounds { length (side_text side) ≤ length out.old }
-    ensures { Put out.old 0 (side_text side) out.new result }
+#[tactic(auto, unfolding(crate::specs::Codes::side_text, units::specs::Spans::same, units::specs::Spans::within))]
+fn side_text(side: Side) -> &'static str
+    ensures { result.now ≡ side_text (pos (side_length side)) }
 {
     match side {
-        SIDE_100_M => put_bytes(out, 0, b"100m"),
-        SIDE_1_KM => put_bytes(out, 0, b"1km"),
-        _ => put_bytes(out, 0, b"10km"),
+        Side::Metres100 => "100m",
+        Side::Kilometre => "1km",
+        Side::Kilometres10 => "10km",
     }
 }
 
-// Writes the code of a cell and answers the index after it.
-fn put_code(out: &mut [u8], side: i64, east: i64, north: i64) -> usize
-    requires side_value { accepted_side side ≡ true }
-    requires north_in_bounds { length (code_text side east north) ≤ length out.old }
-    ensures { Put out.old 0 (code_text side east north) out.new result }
+fn code_text(side: Side, east: i64, north: i64) -> ArrayString<CODE_MOST>
+    requires { length (code_text (pos (side_length side)) east north) ≤ 18 }
+    ensures { result.bytes ≡ code_text (pos (side_length side)) east north }
 {
-    let after = put_side(out, side);
-    put_pair(out, after, b"N", north, b"E", east)
+    let mut code = ArrayString::new();
+    code.push_str(side_text(side));
+    push_pair(&mut code, "N", north, "E", east);
+    code
 }
 
-// Any side, any numbers, any bytes: the customer's call that writes a cell's code. The code is made in a place of
-// its own, so that nothing is written where the lent bytes are too few.
-pub fn write_code(side: i64, east: i64, north: i64, out: &mut [u8]) -> WrittenCode
-    ensures { CodeWritten side east north out.old out.new result }
+// Any side, any numbers, any bytes: the customer's call that writes a cell's code, and answers how many bytes it has.
+// The code is made in a place of its own, so that nothing is written where the lent bytes are too few.
+pub fn write_code(side: i64, east: i64, north: i64, out: &mut [u8]) -> Result<u64, Refusal>
+    ensures { CodeWritten side east north out.old out.new (written_answer result) }
 {
-    let refusal = code_refusal(side, east, north);
-    if refusal != 0 {
-        return WrittenCode::Refused(refusal);
-    }
-    let mut code = [0; CODE_MOST];
-    let length = put_code(&mut code, side, east, north);
-    if out.len() < length {
-        return WrittenCode::Refused(LITTLE_ROOM);
-    }
-    put_bytes(out, 0, &code[..length]);
-    WrittenCode::Length(length as u64)
+    let side = coded_side(side, east, north)?;
+    let code = code_text(side, east, north);
+    Refusal::LittleRoom.unless(code.len() <= out.len())?;
+    out[..code.len()].copy_from_slice(code.as_bytes());
+    Ok(code.len() as u64)
 }
