@@ -1,61 +1,31 @@
--- Laws of the way back from an authalic latitude: the South Pole passes the test of the search, because its β is −90°, and the test stays
--- false once it is false, because β never falls. Where the terms round to φ − β at φ and at φ + 1, β of φ is the one given and that of φ + 1 is one
+-- Laws of the way back from an authalic latitude. Where the terms round to φ − β at φ and at φ + 1, β of φ is the one given and that of φ + 1 is one
 -- more, so φ is the greatest latitude that passes; the North Pole is so as soon as it passes. Assumes nothing.
-use mathlib.Core.Path.{◌≡◌, sym, ap, ◌∙◌, subst}
+use mathlib.Core.Path.{◌≡◌, sym, ap, ◌∙◌}
 use mathlib.Core.Bool.{true, false}
-use mathlib.Core.List.{List, [], ◌∷◌}
+use mathlib.Core.List.{[], ◌∷◌}
 use mathlib.Core.Logic.{◌⊎◌, inl, inr}
-use Prim.Native.Nat.{ℕ, suc, ◌+◌, ◌-◌, ◌<◌, ◌≤◌}
+use Prim.Native.Nat.{ℕ, suc, ◌-◌, ◌<◌, ◌≤◌}
 use native.Mathlib.Nat.{eq-or-lt_of_le}
 use native.Mathlib.Omega.{arith}
-use lib.IntN.{ℤ, pos, neg_ℤ, nat_abs, ◌+ℤ◌, ◌-ℤ◌}
-use lib.Signed.{◌≤ℤ◌, ≤ℤ_refl}
+use lib.IntN.{ℤ, pos, nat_abs, ◌+ℤ◌, ◌-ℤ◌}
+use lib.Signed.{≤ℤ_refl}
 use mir.Syntax.{w64}
 use mir.Val.{to_z, of_z}
 use Rattle.proof_kit.proofs.Range.{code, read}
 use Rattle.proof_kit.proofs.Ring.{ring, quote}
 use Rattle.proof_kit.proofs.Size.{within}
-use Rattle.proof_kit.proofs.Order.{≤ℤ-trans, one-<ℤ, le_z_true, le_le_z, lt_le_z, abs_lower}
+use Rattle.proof_kit.proofs.Order.{one-<ℤ, le_le_z, lt_le_z}
 use Rattle.integers.specs.Greatest.{greatest}
 use Rattle.integers.specs.Near.{near}
-use Rattle.integers.proofs.Greatest.{Falls, greatest_le, greatest_here, greatest_edge}
-use Rattle.integers.proofs.Search.{Threshold}
+use Rattle.integers.proofs.Greatest.{greatest_le, greatest_here, greatest_edge}
 use Rattle.units.specs.Units.{unit, right_angle, half_turn}
 use Rattle.latitudes.specs.declared.AuthalicSeries.{AuthalicSeries}
 use Rattle.latitudes.specs.declared.Authalic.{Authalic}
 use Rattle.latitudes.specs.Latitude.{three_terms, terms, rounded, beta}
 use Rattle.latitudes.specs.InnerSizes.{SmallSeries}
 use Rattle.geodetic_search.specs.Reverse.{from_south_pole, not_above, geodetic}
-use Rattle.geodetic_search.specs.InnerSearch.{Searchable}
-use Rattle.latitudes.proofs.AuthalicLaws.{beta_mas, beta_mono, beta_south_pole}
-
-pub not_above_pole : (k : AuthalicSeries) (β : Authalic) → nat_abs β.0 ≤ right_angle → not_above k β 0 ≡ true
-unfolding not_above from_south_pole
-not_above_pole k β h =
-    le_le_z {x = beta_mas k (neg_ℤ (pos right_angle))} {y = β.0} (rw (beta_south_pole k) (abs_lower β.0 h))
-
-further : (a b : ℕ) → a ≤ b → (from_south_pole b).0 ≡ (from_south_pole a).0 +ℤ pos (b - a)
-unfolding from_south_pole
-further a b h =
-    let e : b ≡ a + (b - a) = omega arith in
-    ap (λ (n : ℕ). pos n -ℤ pos right_angle) e ∙ moved (pos a) (pos (b - a)) (pos right_angle)
-  where
-    moved : (x y r : ℤ) → x +ℤ y -ℤ r ≡ x -ℤ r +ℤ y
-    moved x y r = ring (x ∷ y ∷ r ∷ []) (search quote depth 40 fits 20000) tt
-
-pub not_above_falls : (k : AuthalicSeries) → SmallSeries k → (β : Authalic) (n : ℕ) → Falls (not_above k β) n
-unfolding not_above
-not_above_falls k small β n a b h l t =
-    le_le_z {x = (beta k (from_south_pole a)).0} {y = β.0}
-    (≤ℤ-trans (rises a b h) (le_z_true (beta k (from_south_pole b)).0 β.0 t))
-  where
-    rises : (a b : ℕ) → a ≤ b → (beta k (from_south_pole a)).0 ≤ℤ (beta k (from_south_pole b)).0
-    rises a b h =
-        subst (λ (φ : ℤ). beta_mas k (from_south_pole a).0 ≤ℤ beta_mas k φ) (sym (further a b h)) (beta_mono k small (b - a) (from_south_pole a).0)
-
-pub not_above_threshold : {t : List ℕ} {k : AuthalicSeries} {β : Authalic} → Searchable t k β → Threshold (not_above k β) half_turn
-not_above_threshold {k = k} {β = β} given =
-    record { zero_passes = not_above_pole k β given.beta_size; falls = not_above_falls k given.small β half_turn }
+use Rattle.geodetic_search.specs.InnerThreshold.{further, not_above_falls}
+use Rattle.latitudes.proofs.AuthalicLaws.{beta_mas}
 
 -- ---- the latitude that the rounding settles
 
@@ -72,7 +42,7 @@ beta_rounded : (k : AuthalicSeries) (φ y : ℤ) → near (three_terms k.k2 k.k4
 unfolding beta rounded terms
 beta_rounded k φ y e = ap (λ (x : ℤ). φ -ℤ x) e
 
-module _ {t : List ℕ} {k : AuthalicSeries} {β : Authalic} (given : Searchable t k β) (n : ℕ) where
+module _ {k : AuthalicSeries} (small : SmallSeries k) (β : Authalic) (n : ℕ) where
   settled_passes : beta_mas k (φ n) ≡ φ n -ℤ (φ n -ℤ β.0) → not_above k β n ≡ true
   unfolding not_above
   settled_passes e =
@@ -105,7 +75,7 @@ module _ {t : List ℕ} {k : AuthalicSeries} {β : Authalic} (given : Searchable
 
       at : (n ≡ half_turn) ⊎ (n < half_turn) → greatest (not_above k β) half_turn ≡ n
       at (inl e) = ap (greatest (not_above k β)) (sym e) ∙ greatest_here (not_above k β) n passes
-      at (inr l) = greatest_edge (not_above k β) half_turn (not_above_falls k given.small β half_turn) n l passes fails
+      at (inr l) = greatest_edge (not_above k β) half_turn (not_above_falls k small β half_turn) n l passes fails
 
 pub from_south_pole_size : (n : ℕ) → n ≤ half_turn → nat_abs (from_south_pole n).0 ≤ right_angle
 unfolding from_south_pole
