@@ -136,7 +136,7 @@ pub fn whole_units(unit: u64, x: f64) -> i64
     requires { (unit ≤ degree) × (within_limit plane_limit_float x ≡ true) }
     ensures { result ≡ whole_of unit x }
 {
-    let bits = f64::to_bits(x);
+    let bits = x.to_bits();
     let field = bits % SIGN / FIELD;
     if field < LEAST_FIELD {
         return 0;
