@@ -19,12 +19,9 @@ use Rattle.readings.specs.Readings.{power_refusal, reading_refusal}
 use Rattle.slots.specs.declared.LoopCell.{LoopCell}
 use Rattle.slots.specs.declared.Slot.{Slot}
 use Rattle.tallies.specs.declared.Tally.{Tally}
-use Rattle.tallies.specs.declared.TallyAnswer.TheVariants.{Done, Refused}
-use Rattle.tallies.specs.declared.SumsAnswer.{SumsAnswer}
-use Rattle.tallies.specs.declared.SumsAnswer.TheVariants.{Refused as Unread}
 use Rattle.slots.specs.Slots.{empty_slot, holds, index_of, slot_of, full, with_reading}
 use Rattle.shares.specs.Shares.{place_of}
-use Rattle.tallies.specs.Tallies.{side_refusal, is_loop, named_refusal, slot_refusal, add_refusal}
+use Rattle.tallies.specs.Tallies.{Done, Refused, SumsAnswer, Unread, side_refusal, is_loop, named_refusal, slot_refusal, add_refusal}
 use Rattle.tallies.specs.Tallies.{tally_told, sums_told, next, made, added, cleared, sums_in, read_from}
 use Rattle.tally_laws.specs.Histories.{Call, adding, clearing, reading, cell_in, answer_of, changing, number_of, after}
 use Rattle.tally_laws.specs.Theorems.{OtherLoopsRefused, OtherCellsRefused, RefusedUnchanged, CellDecides}

@@ -20,12 +20,11 @@ use Rattle.readings.specs.Readings.{power_refusal, reading_refusal}
 use Rattle.slots.specs.declared.LoopCell.{LoopCell}
 use Rattle.slots.specs.declared.Slot.{Slot}
 use Rattle.tallies.specs.declared.Tally.{Tally}
-use Rattle.tallies.specs.declared.SumsAnswer.TheVariants.{Sums}
 use Rattle.slots.specs.Slots.{empty_slot, free, holds, index_of, most_readings}
 use Rattle.shares.specs.Shares.{passing, held_in, sure_slots, shared_slots, beyond, granted, new_slot, place_of}
 use Rattle.shares.proofs.Places.{own_place, new_place}
 use Rattle.shares.proofs.Rule.{beyond_is, granted_not, granted_sure, granted_refused}
-use Rattle.tallies.specs.Tallies.{is_loop, named_refusal, slot_refusal, add_refusal, empty_tally, read_from}
+use Rattle.tallies.specs.Tallies.{Sums, is_loop, named_refusal, slot_refusal, add_refusal, empty_tally, read_from}
 use Rattle.tally_laws.specs.Histories.{Call, adding, number_of, after, after_all, Answered, history, folded, with_call, readings_of}
 use Rattle.tally_laws.specs.Histories.{sum_of, count_of, overloads_of, cells_with, cells_of, held_by, add_number}
 use Rattle.tally_laws.specs.Theorems.{some_of, HistoryRule, AddDecided, AddRefusedExactly, OneSlot, HeldSlots, FreeWhereGranted, SureOfSlots, SumsBounded}

@@ -21,10 +21,7 @@ use Rattle.slots.specs.Slots.{same_cell, most_readings}
 use Rattle.shares.specs.Shares.{held_in, granted}
 use Rattle.shares.proofs.Rule.{granted_same}
 use Rattle.tallies.specs.declared.Tally.{Tally}
-use Rattle.tallies.specs.declared.TallyAnswer.TheVariants.{Done, Refused}
-use Rattle.tallies.specs.declared.SumsAnswer.{SumsAnswer}
-use Rattle.tallies.specs.declared.SumsAnswer.TheVariants.{Sums, Refused as Unread}
-use Rattle.tallies.specs.Tallies.{is_loop, named_refusal, empty_tally, sums_told, cleared, read_from}
+use Rattle.tallies.specs.Tallies.{Done, Refused, SumsAnswer, Sums, Unread, is_loop, named_refusal, empty_tally, sums_told, cleared, read_from}
 use Rattle.tally_laws.specs.Histories.{Call, adding, clearing, reading, loop_in, changing, telling, answer_of, number_in, number_of, after_all, Answered, history}
 use Rattle.tally_laws.specs.Histories.{folded, with_call, readings_of, sum_of, count_of, overloads_of, cells_with, cells_of, held_by, accepted_of}
 use Rattle.tally_laws.specs.Theorems.{other_loop, TwoHistories}

@@ -8,11 +8,9 @@ use Rattle.readings.specs.declared.Reading.TheVariants.{Power, Overloaded}
 use Rattle.readings.specs.Readings.{reading_refusal, nanowatts_of}
 use Rattle.slots.specs.declared.LoopCell.{LoopCell}
 use Rattle.tallies.specs.declared.Tally.{Tally}
-use Rattle.tallies.specs.declared.TallyAnswer.{TallyAnswer}
-use Rattle.tallies.specs.declared.SumsAnswer.{SumsAnswer}
 use Rattle.slots.specs.Slots.{same_cell, most_readings}
 use Rattle.shares.specs.Shares.{granted}
-use Rattle.tallies.specs.Tallies.{named_refusal, tally_told, sums_told, added, cleared, read_from}
+use Rattle.tallies.specs.Tallies.{TallyAnswer, SumsAnswer, named_refusal, tally_told, sums_told, added, cleared, read_from}
 
 -- ---- calls
 

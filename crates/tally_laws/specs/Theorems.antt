@@ -7,10 +7,9 @@ use Rattle.readings.specs.Readings.{reading_refusal}
 use Rattle.slots.specs.declared.LoopCell.{LoopCell}
 use Rattle.slots.specs.declared.Slot.{Slot}
 use Rattle.tallies.specs.declared.Tally.{Tally}
-use Rattle.tallies.specs.declared.SumsAnswer.TheVariants.{Sums}
 use Rattle.slots.specs.Slots.{slot_count, free, holds, same_cell, most_readings}
 use Rattle.shares.specs.Shares.{passing, held_in, sure_slots, shared_slots, beyond, granted}
-use Rattle.tallies.specs.Tallies.{is_loop, named_refusal, empty_tally, made, tally_told, read_from}
+use Rattle.tallies.specs.Tallies.{Sums, is_loop, named_refusal, empty_tally, made, tally_told, read_from}
 use Rattle.tally_laws.specs.Histories.{Call, adding, clearing, reading, cell_in, loop_in, answer_of, number_of, after, after_all}
 use Rattle.tally_laws.specs.Histories.{Answered, history, readings_of, sum_of, count_of, overloads_of, cells_of, held_by, add_number, accepted_of}
 

@@ -17,10 +17,9 @@ use Rattle.readings.specs.Readings.{power_refusal, reading_refusal}
 use Rattle.readings.proofs.Witnesses.{accepted_witnesses}
 use Rattle.slots.specs.declared.LoopCell.{LoopCell}
 use Rattle.tallies.specs.declared.Tally.{Tally}
-use Rattle.tallies.specs.declared.SumsAnswer.TheVariants.{Sums}
 use Rattle.slots.specs.Slots.{most_readings}
 use Rattle.shares.proofs.Rule.{second_passes, granted_sure}
-use Rattle.tallies.specs.Tallies.{is_loop, named_refusal, read_from}
+use Rattle.tallies.specs.Tallies.{Sums, is_loop, named_refusal, read_from}
 use Rattle.tally_laws.specs.Histories.{Call, adding, number_of, after, after_all, sum_of, count_of, overloads_of, without, with_call, cells_with}
 use Rattle.tally_witnesses.specs.WitnessTheorems.{cell_at, watt, fresh, FullWitness}
 use Rattle.tally_laws.proofs.Cells.{cell_self}

@@ -6,10 +6,9 @@ use Rattle.readings.specs.declared.Reading.TheVariants.{Power, Overloaded}
 use Rattle.slots.specs.declared.LoopCell.{LoopCell}
 use Rattle.slots.specs.declared.Slot.{Slot}
 use Rattle.tallies.specs.declared.Tally.{Tally}
-use Rattle.tallies.specs.declared.SumsAnswer.TheVariants.{Sums}
 use Rattle.slots.specs.Slots.{slot_count}
 use Rattle.shares.specs.Shares.{held_in, granted}
-use Rattle.tallies.specs.Tallies.{empty_tally, made, tally_told, read_from}
+use Rattle.tallies.specs.Tallies.{Sums, empty_tally, made, tally_told, read_from}
 use Rattle.tally_laws.specs.Histories.{Call, adding, clearing, reading, number_of, after, after_all}
 
 -- a cell of a loop
