@@ -1,17 +1,18 @@
 // What is worked out once for a set and handed down by value.
 #![tactic(auto)]
 
+pub mod projection;
+
 ghost use Rattle.std.specs.Prelude.{◌≡◌, true, ◌≤◌, nat_abs};
-ghost use Rattle.sine_table.specs.Table.{IsTable};
 ghost use Rattle.units.specs.Units.{right_angle};
 ghost use Rattle.parameters.specs.ParameterSet.{accepted_lat0, set_refusal};
 ghost use Rattle.constants.specs.Derived.{to_mas, J, series_of, C0, m, D, constants_of, e4 as e4Of, e6 as e6Of};
 
 use billionths::{product, quotient, unit_root};
 use integers::near;
-use latitudes::{AuthalicSeries, Geodetic, to_authalic};
+use latitudes::{AuthalicSeries, Geodetic, Latitude, to_authalic};
 use parameters::{Parameters, is_pole};
-use sine_table::Table;
+use sine_table::SineTable;
 use units::UNIT;
 
 // In document 01's names: S0, C0 in billionths; RD, RN in cm.
@@ -56,8 +57,8 @@ fn series(e2: i64, e4: i64, e6: i64) -> AuthalicSeries
 }
 
 // m: the radius of the parallel of lat0 as a part of the semi-major axis.
-fn parallel_ratio(t: &Table, e2: i64, lat0: Geodetic) -> i64
-    requires { IsTable t.now × (nat_abs e2 ≤ 10_000_000) × (nat_abs lat0.0 ≤ right_angle) }
+fn parallel_ratio(t: &SineTable, e2: i64, lat0: Geodetic) -> i64
+    requires { (nat_abs e2 ≤ 10_000_000) × (nat_abs lat0.0 ≤ right_angle) }
     ensures { result ≡ m e2 lat0 }
 {
     let on = lat0.sine_cosine(t);
@@ -67,8 +68,8 @@ fn parallel_ratio(t: &Table, e2: i64, lat0: Geodetic) -> i64
 }
 
 // D: the ratio of the scales of the two axes; 1 at a pole.
-fn axis_ratio(t: &Table, e2: i64, lat0: Geodetic, j: i64, c0: i64) -> i64
-    requires { IsTable t.now × (nat_abs e2 ≤ 10_000_000) × (accepted_lat0 lat0 ≡ true) × (j ≡ J e2) × (c0 ≡ C0 e2 lat0) }
+fn axis_ratio(t: &SineTable, e2: i64, lat0: Geodetic, j: i64, c0: i64) -> i64
+    requires { (nat_abs e2 ≤ 10_000_000) × (accepted_lat0 lat0 ≡ true) × (j ≡ J e2) × (c0 ≡ C0 e2 lat0) }
     ensures { result ≡ D e2 lat0 }
 {
     if is_pole(lat0) {
@@ -78,8 +79,8 @@ fn axis_ratio(t: &Table, e2: i64, lat0: Geodetic, j: i64, c0: i64) -> i64
 }
 
 // The constants of an accepted set.
-pub fn constants_of(t: &Table, p: Parameters) -> Constants
-    requires { IsTable t.now × (set_refusal p ≡ 0) }
+pub fn constants_of(t: &SineTable, p: Parameters) -> Constants
+    requires { set_refusal p ≡ 0 }
     ensures { result ≡ constants_of p }
 {
     let e2 = p.e2;
