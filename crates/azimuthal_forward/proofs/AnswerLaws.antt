@@ -8,8 +8,8 @@ use Rattle.units.proofs.AnswerLaws.{answer_tells, set_refused}
 use Rattle.latitudes.specs.declared.Geodetic.{Geodetic}
 use Rattle.parameters.specs.declared.Parameters.{Parameters}
 use Rattle.parameters.specs.ParameterSet.{set_refusal}
-use Rattle.azimuthal_forward.specs.declared.PlaneAnswer.TheVariants.{Plane, Refused}
 use Rattle.azimuthal_forward.specs.Steps.{near_enough}
+use Rattle.azimuthal_forward.specs.Answer.{Plane, Refused}
 use Rattle.azimuthal_forward.specs.Answer.{on_globe, nearness, forward_far, forward_refusal, easting_of, northing_of, plane_told}
 use Rattle.azimuthal_forward.specs.Answer.{forward_of, forward_told}
 

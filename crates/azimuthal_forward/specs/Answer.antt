@@ -1,16 +1,16 @@
 -- The answer of the forward steps, document 01, "Forward steps" and "Refusal numbers": one refusal number and one pair of values.
-use Rattle.std.specs.Prelude.{ℕ, Bool, ◌&&◌, ℤ, ◌+ℤ◌, ◌-ℤ◌}
+use Rattle.std.specs.Prelude.{ℕ, Bool, ◌&&◌, ℤ, ◌+ℤ◌, ◌-ℤ◌, Result, Ok, Err}
 use Rattle.units.specs.Units.{right_angle, half_turn}
 use Rattle.units.specs.Spans.{inside}
-use Rattle.units.specs.Refusals.{out_of_limits, too_far, unless, first_refusal}
+use Rattle.units.specs.declared.refusals.Refusal.{Refusal}
+use Rattle.units.specs.Refusals.{number, out_of_limits, too_far, unless, first_refusal}
 use Rattle.units.specs.declared.answers.Told.{Told}
 use Rattle.units.specs.Answers.{accepted, refused, answered}
 use Rattle.latitudes.specs.declared.Geodetic.{Geodetic}
 use Rattle.parameters.specs.declared.Parameters.{Parameters}
 use Rattle.parameters.specs.ParameterSet.{set_refusal}
 use Rattle.constants.specs.Derived.{constants_of}
-use Rattle.azimuthal_forward.specs.declared.PlaneAnswer.{PlaneAnswer}
-use Rattle.azimuthal_forward.specs.declared.PlaneAnswer.TheVariants.{Plane, Refused}
+use Rattle.azimuthal_forward.specs.declared.PlanePosition.{PlanePosition}
 use Rattle.azimuthal_forward.specs.Steps.{near_enough, G, dE, dN}
 
 -- "latitude beyond ±90° or longitude beyond ±180°" is refused 3
@@ -37,6 +37,16 @@ module _ (p : Parameters) (φ : Geodetic) (lon : ℤ) where
 
   unfoldable pub northing_of : ℤ
   northing_of = p.false_northing +ℤ dN (constants_of p) φ (lon -ℤ p.lon0)
+
+-- easting and northing, or the refusal number alone
+pub data PlaneAnswer : Type 0 where
+  Plane : ℤ → ℤ → PlaneAnswer
+  Refused : ℕ → PlaneAnswer
+
+-- what the code answers: a refusal by its number
+abbrev pub plane_answer : Result PlanePosition Refusal → PlaneAnswer
+plane_answer (Ok position) = Plane position.easting position.northing
+plane_answer (Err refusal) = Refused (number refusal)
 
 -- the number and the values of each case
 abbrev pub plane_told : PlaneAnswer → Told

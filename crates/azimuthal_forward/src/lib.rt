@@ -1,39 +1,38 @@
 // From geodetic latitude and longitude to easting and northing, in whole units.
 #![tactic(auto)]
 
-ghost use Rattle.std.specs.Prelude.{◌≡◌, ◌≤◌, ◌*◌, pos, nat_abs, ◌+ℤ◌, ◌*ℤ◌, ◌≤ℤ◌};
+ghost use Rattle.std.specs.Prelude.{◌≡◌, ◌≤◌, ◌*◌, [], ◌∷◌, map, pos, nat_abs, ◌+ℤ◌, ◌*ℤ◌, ◌≤ℤ◌};
 ghost use Rattle.integers.specs.Near.{near as nearOf};
-ghost use Rattle.sine_table.specs.Table.{IsTable};
 ghost use Rattle.units.specs.Units.{right_angle, full_turn};
 ghost use Rattle.latitudes.specs.InnerSizes.{SmallSeries};
-ghost use Rattle.constants.specs.InnerPrepared.{BoundedCentre, Prepared};
+ghost use Rattle.constants.specs.InnerPrepared.{BoundedCentre};
 ghost use Rattle.azimuthal_forward.specs.Steps.{H as scale_of, direction_of};
-ghost use Rattle.azimuthal_forward.specs.Answer.{on_globe, forward_of, plane_told, forward_told};
-ghost use Rattle.azimuthal_forward.specs.InnerStages.{refused_before, before_root, AfterRoot, after_root};
+ghost use Rattle.azimuthal_forward.specs.Answer.{on_globe, plane_answer, forward_of, plane_told, forward_told};
+ghost use Rattle.azimuthal_forward.specs.InnerStages.{before_answer, before_root, AfterRoot, after_root, forward_at};
 
 use billionths::{difference, product, sum};
-use constants::{Constants, constants_of};
-use integers::{RootPair, near, root, roots};
-use latitudes::{Geodetic, to_authalic};
+use constants::Constants;
+use constants::projection::Projection;
+use integers::{near, root, roots};
+use latitudes::{Geodetic, Latitude, to_authalic};
 use parameters::Parameters;
-use sine_table::Table;
+use sine_table::SineTable;
 use trig::sine_cosine;
-use units::answers::{Told, accepted, refused};
-use units::refusals::{OUT_OF_LIMITS, TOO_FAR};
+use units::refusals::Refusal;
 use units::{LATITUDE_LEAST, LATITUDE_MOST, LONGITUDE_LEAST, LONGITUDE_MOST, UNIT, are_within};
 
-// Easting and northing in cm, or the refusal number alone.
-#[derive(Clone, Copy)]
-pub enum PlaneAnswer {
-    Plane { easting: i64, northing: i64 },
-    Refused(u8),
+// Easting and northing in cm.
+#[derive(Clone, Copy, Debug, PartialEq, Eq)]
+pub struct PlanePosition {
+    pub easting: i64,
+    pub northing: i64,
 }
 
-// The answers for two positions.
-#[derive(Clone, Copy)]
-pub struct PlaneAnswers {
-    pub first: PlaneAnswer,
-    pub second: PlaneAnswer,
+// Latitude and longitude in mas.
+#[derive(Clone, Copy, Debug, PartialEq, Eq)]
+pub struct GeodeticPosition {
+    pub latitude: Geodetic,
+    pub longitude: i64,
 }
 
 // Where a position lies as seen from the centre: u, w and the nearness G of document 01.
@@ -42,14 +41,6 @@ pub struct Direction {
     pub u: i64,
     pub w: i64,
     pub g: i64,
-}
-
-// What the steps before the root H give: 3, 4 or 0, and the direction; a refused position has that of
-// the centre, so that its root can be taken with another's.
-#[derive(Clone, Copy)]
-struct BeforeRoot {
-    refusal: u8,
-    direction: Direction,
 }
 
 // The nearness of the centre, 2U.
@@ -70,6 +61,7 @@ fn scale_square(g: i64) -> u64
 }
 
 // H = root(G·500,000,000)
+#[tactic(auto, unfolding(crate::specs::Steps::H))]
 pub fn scale(g: i64) -> u64
     requires { (pos 0 ≤ℤ g) × (nat_abs g ≤ 4_000_000_000) }
     ensures { result ≡ scale_of g }
@@ -78,16 +70,17 @@ pub fn scale(g: i64) -> u64
 }
 
 // H for two positions.
-pub fn scales(g: i64, g2: i64) -> RootPair
+#[tactic(auto, unfolding(crate::specs::Steps::H))]
+pub fn scales(g: i64, g2: i64) -> [u64; 2]
     requires { (pos 0 ≤ℤ g) × (nat_abs g ≤ 4_000_000_000) × (pos 0 ≤ℤ g2) × (nat_abs g2 ≤ 4_000_000_000) }
-    ensures { (result.first ≡ scale_of g) × (result.second ≡ scale_of g2) }
+    ensures { result ≡ scale_of g ∷ scale_of g2 ∷ [] }
 {
     roots(scale_square(g), scale_square(g2))
 }
 
 // The direction of a latitude and a longitude difference d.
-pub fn direction_of(t: &Table, k: Constants, lat: Geodetic, d: i64) -> Direction
-    requires { IsTable t.now × SmallSeries k.series × BoundedCentre k × (nat_abs lat.0 ≤ right_angle) × (nat_abs d ≤ full_turn) }
+pub fn direction_of(t: &SineTable, k: Constants, lat: Geodetic, d: i64) -> Direction
+    requires { SmallSeries k.series × BoundedCentre k × (nat_abs lat.0 ≤ right_angle) × (nat_abs d ≤ full_turn) }
     ensures { result ≡ direction_of k lat d }
 {
     let series = k.series;
@@ -105,6 +98,7 @@ pub fn direction_of(t: &Table, k: Constants, lat: Geodetic, d: i64) -> Direction
 }
 
 // Whether a position is within ±90° and ±180°.
+#[tactic(auto, unfolding(crate::specs::Answer::on_globe))]
 fn is_on_globe(lat: Geodetic, lon: i64) -> bool
     ensures { result ≡ on_globe lat lon }
 {
@@ -126,103 +120,82 @@ fn coordinate(origin: i64, r: i64, x: i64, h: u64) -> i64
     origin + near(r * x, h)
 }
 
-// A refused position, by its number.
-fn refused_before(number: u8) -> BeforeRoot
-    ensures { result ≡ refused_before number }
+// The steps up to the nearness, which decides the last refusal.
+#[tactic(auto, using(crate::proofs::StageLaws::before_off_globe, crate::proofs::StageLaws::before_too_far))]
+fn steps_before_root(projection: &Projection, lat: Geodetic, lon: i64) -> Result<Direction, Refusal>
+    ensures { before_answer result ≡ before_root projection.now.set lat lon }
 {
-    BeforeRoot {
-        refusal: number,
-        direction: Direction {
-            u: 0,
-            w: 0,
-            g: CENTRE_NEARNESS,
-        },
-    }
+    Refusal::OutOfLimits.unless(is_on_globe(lat, lon))?;
+    let direction = direction_of(
+        projection.table,
+        projection.constants,
+        lat,
+        lon - projection.set.lon0,
+    );
+    Refusal::TooFar.unless(LEAST_NEARNESS <= direction.g)?;
+    Ok(direction)
 }
 
-// The steps up to the nearness, which decides the last refusal.
-fn steps_before_root(t: &Table, p: Parameters, k: Constants, lat: Geodetic, lon: i64) -> BeforeRoot
-    requires { Prepared t.now p k }
-    ensures { result ≡ before_root p lat lon }
+// The nearness whose root is taken: for a refused position that of the centre, so that its root can be
+// taken with another's.
+fn nearness(before: Result<Direction, Refusal>) -> i64
+    ensures { result ≡ (before_answer before).direction.g }
 {
-    if !is_on_globe(lat, lon) {
-        return refused_before(OUT_OF_LIMITS);
-    }
-    let direction = direction_of(t, k, lat, lon - p.lon0);
-    let g = direction.g;
-    if g < LEAST_NEARNESS {
-        return refused_before(TOO_FAR);
-    }
-    BeforeRoot {
-        refusal: 0,
-        direction,
-    }
+    before.map_or(CENTRE_NEARNESS, |direction| direction.g)
 }
 
 // The steps that take the root h.
-fn steps_after_root(p: Parameters, k: Constants, before: BeforeRoot, h: u64) -> PlaneAnswer
-    requires { AfterRoot p k before.direction h }
-    ensures { result ≡ after_root p k before h }
+fn steps_after_root(
+    projection: &Projection,
+    before: Result<Direction, Refusal>,
+    h: u64,
+) -> Result<PlanePosition, Refusal>
+    requires { AfterRoot (before_answer before).direction h }
+    ensures { plane_answer result ≡ after_root projection.now.set projection.now.constants (before_answer before) h }
 {
-    if before.refusal != 0 {
-        return PlaneAnswer::Refused(before.refusal);
-    }
-    let to = before.direction;
-    PlaneAnswer::Plane {
-        easting: coordinate(p.false_easting, k.rd, to.u, h),
-        northing: coordinate(p.false_northing, k.rn, to.w, h),
-    }
+    let to = before?;
+    let set = projection.set;
+    let k = projection.constants;
+    Ok(PlanePosition {
+        easting: coordinate(set.false_easting, k.rd, to.u, h),
+        northing: coordinate(set.false_northing, k.rn, to.w, h),
+    })
 }
 
 // A position with an accepted set and its constants.
-pub fn forward_point(t: &Table, p: Parameters, k: Constants, lat: Geodetic, lon: i64) -> PlaneAnswer
-    requires { Prepared t.now p k }
-    ensures { result ≡ forward_of p lat lon }
+pub fn forward_point(
+    projection: &Projection,
+    lat: Geodetic,
+    lon: i64,
+) -> Result<PlanePosition, Refusal>
+    ensures { plane_answer result ≡ forward_of projection.now.set lat lon }
 {
-    let before = steps_before_root(t, p, k, lat, lon);
-    steps_after_root(p, k, before, scale(before.direction.g))
+    let before = steps_before_root(projection, lat, lon);
+    steps_after_root(projection, before, scale(nearness(before)))
 }
 
 // Two positions, whose roots are taken together.
 pub fn forward_points(
-    t: &Table,
-    p: Parameters,
-    k: Constants,
-    lat: Geodetic,
-    lon: i64,
-    lat2: Geodetic,
-    lon2: i64,
-) -> PlaneAnswers
-    requires { Prepared t.now p k }
-    ensures { (result.first ≡ forward_of p lat lon) × (result.second ≡ forward_of p lat2 lon2) }
+    projection: &Projection,
+    at: [GeodeticPosition; 2],
+) -> [Result<PlanePosition, Refusal>; 2]
+    ensures { map plane_answer result ≡ map (forward_at projection.now.set) at }
 {
-    let before = steps_before_root(t, p, k, lat, lon);
-    let before2 = steps_before_root(t, p, k, lat2, lon2);
-    let h = scales(before.direction.g, before2.direction.g);
-    PlaneAnswers {
-        first: steps_after_root(p, k, before, h.first),
-        second: steps_after_root(p, k, before2, h.second),
-    }
+    let [at, at2] = at;
+    let before = steps_before_root(projection, at.latitude, at.longitude);
+    let before2 = steps_before_root(projection, at2.latitude, at2.longitude);
+    let [h, h2] = scales(nearness(before), nearness(before2));
+    [
+        steps_after_root(projection, before, h),
+        steps_after_root(projection, before2, h2),
+    ]
 }
 
 // Any set, any position: the customer's call.
-pub fn forward(p: Parameters, lat: Geodetic, lon: i64) -> PlaneAnswer
-    ensures { (result ≡ forward_of p lat lon) × (plane_told result ≡ forward_told p lat lon) }
+pub fn forward(p: Parameters, lat: Geodetic, lon: i64) -> Result<PlanePosition, Refusal>
+    ensures { (plane_answer result ≡ forward_of p lat lon) × (plane_told (plane_answer result) ≡ forward_told p lat lon) }
 {
-    let refusal = p.refusal();
-    if refusal != 0 {
-        return PlaneAnswer::Refused(refusal);
-    }
-    let t = sine_table::table();
-    forward_point(&t, p, constants_of(&t, p), lat, lon)
-}
-
-// What an answer tells.
-pub fn plane_told(answer: PlaneAnswer) -> Told
-    ensures { result ≡ plane_told answer }
-{
-    match answer {
-        PlaneAnswer::Plane { easting, northing } => accepted(easting, northing),
-        PlaneAnswer::Refused(number) => refused(number),
-    }
+    let table = SineTable::new();
+    let projection = Projection::new(&table, p)?;
+    forward_point(&projection, lat, lon)
 }
