@@ -11,7 +11,7 @@ use Rattle.parameters.specs.ParameterSet.{set_refusal}
 use Rattle.constants.specs.declared.Constants.{Constants}
 use Rattle.constants.specs.Derived.{constants_of}
 use Rattle.azimuthal_forward.specs.Steps.{near_enough}
-use Rattle.azimuthal_inverse.specs.declared.GeodeticAnswer.TheVariants.{Position, Refused}
+use Rattle.azimuthal_inverse.specs.Answer.{Position, Refused}
 use Rattle.azimuthal_inverse.specs.Steps.{at_origin, on_map, K, found}
 use Rattle.sphere_points.specs.Sphere.{G}
 use Rattle.azimuthal_inverse.specs.Answer.{far_from, latitude_from, longitude_from, answer_from, inverse_far}

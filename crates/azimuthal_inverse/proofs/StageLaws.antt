@@ -18,18 +18,19 @@ use Rattle.parameters.specs.declared.Parameters.{Parameters}
 use Rattle.parameters.specs.ParameterSet.{set_refusal}
 use Rattle.constants.specs.declared.Constants.{Constants}
 use Rattle.constants.specs.Derived.{constants_of}
-use Rattle.constants.specs.InnerPrepared.{BoundedCentre, Prepared}
+use Rattle.constants.specs.InnerPrepared.{BoundedCentre}
 use Rattle.constants.proofs.ConstantsLaws.{Sound, sound, sound_as}
 use Rattle.azimuthal_forward.specs.Steps.{near_enough}
 use Rattle.sphere_points.specs.declared.SpherePoint.{SpherePoint}
 use Rattle.sphere_points.specs.Sphere.{G}
 use Rattle.sphere_points.specs.InnerSizes.{SmallPoint}
 use Rattle.sphere_points.proofs.SphereLaws.{K-near, G-least, G-most, point_sized}
-use Rattle.azimuthal_inverse.specs.declared.PlanePoint.{PlanePoint}
-use Rattle.azimuthal_inverse.specs.declared.GeodeticAnswer.{GeodeticAnswer}
+use Rattle.azimuthal_inverse.specs.declared.Reduced.{Reduced}
+use Rattle.azimuthal_inverse.specs.Answer.{GeodeticAnswer}
+use Rattle.azimuthal_inverse.specs.InnerStages.{PlanePoint}
 use Rattle.azimuthal_inverse.specs.Steps.{at_origin, on_map, K, found}
 use Rattle.azimuthal_inverse.specs.Answer.{answer_from, inverse_of}
-use Rattle.azimuthal_inverse.specs.InnerStages.{answered_early, answered_by_steps, reduced_of, plane_point_of, SmallPlanePoint, sphere_point_of, answer_of}
+use Rattle.azimuthal_inverse.specs.InnerStages.{answered_early, answered_by_steps, reduced_of, plane_point_of, SmallReduced, sphere_point_of, answer_of}
 use Rattle.azimuthal_inverse.proofs.InverseLaws.{K-natural, map_sizes}
 use Rattle.azimuthal_inverse.proofs.AnswerLaws.{from_origin, from_off_map, from_too_far, from_position, inverse_off_plane, inverse_on_plane}
 
@@ -68,14 +69,14 @@ module _ (k : Constants) (dE dN : ℤ) where
 
 -- ---- sizes
 
-early_small : (number : ℕ) (here : Bool) → SmallPlanePoint (answered_early number here)
+early_small : (number : ℕ) (here : Bool) → SmallReduced (answered_early number here).reduced
 early_small number here = record { x_size = zero-le; y_size = zero-le; versed_least = pos-≤ℤ zero-le; versed_most = zero-le }
 
 enough : (g : ℤ) → near_enough g ≡ true → pos 20_000_000 ≤ℤ g
 unfolding near_enough
 enough g e = le_z_true (pos 20_000_000) g e
 
-outcome_small : (k : Constants) → Sound k → (dE dN : ℤ) {q : PlanePoint} → Outcome k dE dN q → SmallPlanePoint q
+outcome_small : (k : Constants) → Sound k → (dE dN : ℤ) {q : PlanePoint} → Outcome k dE dN q → SmallReduced q.reduced
 outcome_small k sound dE dN (origin e) = early_small 0 true
 outcome_small k sound dE dN (off_map e f) = early_small 4 false
 outcome_small k sound dE dN (too_far e f g) = early_small 4 false
@@ -87,7 +88,7 @@ outcome_small k sound dE dN (stepped e f g) =
 -- ---- the answer of a point counted from the false origin
 
 outcome_answer : (p : Parameters) (k : Constants) (dE dN : ℤ) {q : PlanePoint} → Outcome k dE dN q →
-    answer_of p k q (sphere_point_of k q) ≡ answer_from p k dE dN
+    answer_of p k q (sphere_point_of k q.reduced) ≡ answer_from p k dE dN
 unfolding answer_of found
 outcome_answer p k dE dN (origin e) = sym (from_origin p k dE dN e)
 outcome_answer p k dE dN (off_map e f) = sym (from_off_map p k dE dN e f)
@@ -115,46 +116,43 @@ module _ (p : Parameters) (ok : set_refusal p ≡ 0) (E N : ℤ) where
   abbrev dN : ℤ
   dN = N -ℤ p.false_northing
 
-  every_small : (b : Bool) → on_plane E N ≡ b → SmallPlanePoint (plane_point_of p k E N)
+  every_small : (b : Bool) → on_plane E N ≡ b → SmallReduced (plane_point_of p k E N).reduced
   every_small true e = rw (← point_on_plane p k E N e) (outcome_small k (sound p ok) dE dN (outcome k dE dN))
   every_small false e = rw (← point_off_plane p k E N e) (early_small 3 false)
 
-  every_answer : (b : Bool) → on_plane E N ≡ b → answer_of p k (plane_point_of p k E N) (sphere_point_of k (plane_point_of p k E N)) ≡ inverse_of p E N
+  every_answer : (b : Bool) → on_plane E N ≡ b → answer_of p k (plane_point_of p k E N) (sphere_point_of k (plane_point_of p k E N).reduced) ≡ inverse_of p E N
   unfolding answer_of
   every_answer true e = rw (← point_on_plane p k E N e) (outcome_answer p k dE dN (outcome k dE dN) ∙ sym (inverse_on_plane p E N ok e))
   every_answer false e = rw (← point_off_plane p k E N e) (sym (inverse_off_plane p E N ok e))
 
 -- ---- what a caller of the stages knows
 
-module _ {t : List ℕ} {p : Parameters} {k : Constants} (given : Prepared t p k) where
+module _ (p : Parameters) {k : Constants} (ok : set_refusal p ≡ 0) (own : k ≡ constants_of p) where
   pub centre_bounded : BoundedCentre k
-  centre_bounded = (sound_as p k given.set_accepted given.constants).centre
+  centre_bounded = (sound_as p k ok own).centre
 
-  pub plane_point_small : (E N : ℤ) {q : PlanePoint} → q ≡ plane_point_of p k E N → SmallPlanePoint q
-  plane_point_small E N at = rw (at, given.constants) (every_small p given.set_accepted E N (on_plane E N) refl)
+  pub reduced_small : (E N : ℤ) {q : PlanePoint} {r : Reduced} → q ≡ plane_point_of p k E N → r ≡ q.reduced → SmallReduced r
+  reduced_small E N at is = rw (is, at, own) (every_small p ok E N (on_plane E N) refl)
 
-  -- the answer r, of the point of the plane q for E and N as they are read back and of its point of the sphere s
+  -- the answer a, of the point of the plane q for E and N and of its point of the sphere s
   pub stages_are :
-      {E N : ℤ} →
-      SFits w64 E →
-      SFits w64 N →
-      {q : PlanePoint} {s : SpherePoint} {r : GeodeticAnswer} →
-      q ≡ plane_point_of p k (back E) (back N) →
-      s ≡ sphere_point_of k q →
-      r ≡ answer_of p k q s →
-      r ≡ inverse_of p E N
-  stages_are {E} {N} e n at at-s is =
-      is ∙ rw (at-s, at, to_z-of_z e, to_z-of_z n, given.constants) (every_answer p given.set_accepted E N (on_plane E N) refl)
+      (E N : ℤ) {q : PlanePoint} {r : Reduced} {s : SpherePoint} {a : GeodeticAnswer} →
+      q ≡ plane_point_of p k E N →
+      r ≡ q.reduced →
+      s ≡ sphere_point_of k r →
+      a ≡ answer_of p k q s →
+      a ≡ inverse_of p E N
+  stages_are E N at is at-s given = given ∙ rw (at-s, is, at, own) (every_answer p ok E N (on_plane E N) refl)
 
--- a small point of the plane
-module _ {q : PlanePoint} (small : SmallPlanePoint q) where
-  -- its nearness is as a scale requires it
-  pub nearness_given : {g : ℤ} → g ≡ G q.versed → (pos 0 ≤ℤ g) × (nat_abs g ≤ 4_000_000_000)
+-- small X, Y and K
+module _ {r : Reduced} (small : SmallReduced r) where
+  -- the nearness is as a scale requires it
+  pub nearness_given : {g : ℤ} → g ≡ G r.versed → (pos 0 ≤ℤ g) × (nat_abs g ≤ 4_000_000_000)
   nearness_given e =
       let least = small.versed_least in
       let most = small.versed_most in
-      rw e (≤ℤ-trans (pos-≤ℤ zero-le) (G-least q.versed least most), le_trans (G-most q.versed least most) (lit≤ tt))
+      rw e (≤ℤ-trans (pos-≤ℤ zero-le) (G-least r.versed least most), le_trans (G-most r.versed least most) (lit≤ tt))
 
-  pub sphere_point_small : {k : Constants} → BoundedCentre k → {s : SpherePoint} → s ≡ sphere_point_of k q → SmallPoint s
+  pub sphere_point_small : {k : Constants} → BoundedCentre k → {s : SpherePoint} → s ≡ sphere_point_of k r → SmallPoint s
   sphere_point_small centre e =
-      rw e (point_sized q.versed small.versed_least small.versed_most _ centre q.x q.y small.x_size small.y_size)
+      rw e (point_sized r.versed small.versed_least small.versed_most _ centre r.x r.y small.x_size small.y_size)

@@ -1,7 +1,8 @@
 -- The answer of the inverse steps, document 01, "Inverse steps" and "Refusal numbers": one refusal number and one pair of values.
-use Rattle.std.specs.Prelude.{ℕ, cond, ℤ, ◌+ℤ◌, ◌-ℤ◌}
+use Rattle.std.specs.Prelude.{ℕ, cond, ℤ, ◌+ℤ◌, ◌-ℤ◌, Result, Ok, Err}
 use Rattle.units.specs.Spans.{on_plane, wrapped}
-use Rattle.units.specs.Refusals.{out_of_limits, too_far, unless, first_refusal}
+use Rattle.units.specs.declared.refusals.Refusal.{Refusal}
+use Rattle.units.specs.Refusals.{number, out_of_limits, too_far, unless, first_refusal}
 use Rattle.units.specs.declared.answers.Told.{Told}
 use Rattle.units.specs.Answers.{accepted, refused, answered}
 use Rattle.latitudes.specs.declared.Geodetic.{Geodetic}
@@ -11,10 +12,19 @@ use Rattle.parameters.specs.ParameterSet.{set_refusal}
 use Rattle.constants.specs.declared.Constants.{Constants}
 use Rattle.constants.specs.Derived.{constants_of}
 use Rattle.azimuthal_forward.specs.Steps.{near_enough}
-use Rattle.azimuthal_inverse.specs.declared.GeodeticAnswer.{GeodeticAnswer}
-use Rattle.azimuthal_inverse.specs.declared.GeodeticAnswer.TheVariants.{Position, Refused}
+use Rattle.azimuthal_forward.specs.declared.GeodeticPosition.{GeodeticPosition}
 use Rattle.azimuthal_inverse.specs.Steps.{at_origin, on_map, K, found}
 use Rattle.sphere_points.specs.Sphere.{G, latitude_of, longitude_of}
+
+-- latitude and longitude, or the refusal number alone
+pub data GeodeticAnswer : Type 0 where
+  Position : Geodetic → ℤ → GeodeticAnswer
+  Refused : ℕ → GeodeticAnswer
+
+-- what the code answers: a refusal by its number
+abbrev pub geodetic_answer : Result GeodeticPosition Refusal → GeodeticAnswer
+geodetic_answer (Ok position) = Position position.latitude position.longitude
+geodetic_answer (Err refusal) = Refused (number refusal)
 
 -- A set, its constants and a point counted from the false origin: "dE = E − FE, dN = N − FN".
 module _ (p : Parameters) (k : Constants) (dE dN : ℤ) where

@@ -5,7 +5,6 @@
 ghost use Rattle.std.specs.Prelude.{◌≡◌, cond, ◌-◌, ◌≤◌, pos, nat_abs, ◌≤ℤ◌};
 ghost use Rattle.integers.specs.Root.{root};
 ghost use Rattle.units.specs.Units.{right_angle, half_turn};
-ghost use Rattle.sine_table.specs.Table.{IsTable};
 ghost use Rattle.constants.specs.InnerPrepared.{BoundedCentre};
 ghost use Rattle.azimuthal_forward.specs.Steps.{H as scale_of};
 ghost use Rattle.sphere_points.specs.Sphere.{versine_of, G, point_of, latitude_of, longitude_of};
@@ -16,7 +15,7 @@ use billionths::{difference, product, sum};
 use constants::Constants;
 use integers::{magnitude, near, signed};
 use latitudes::Authalic;
-use sine_table::Table;
+use sine_table::SineTable;
 use units::{HALF_TURN, UNIT};
 
 // 2 U: the versed sine of the point opposite to the centre.
@@ -69,8 +68,8 @@ pub fn squared_radius(s: SpherePoint) -> u64
 }
 
 // β of a point whose distance from the axis is `radius`.
-pub fn latitude_of(t: &Table, s: SpherePoint, radius: u64) -> Authalic
-    requires { IsTable t.now × SmallPoint s × (radius ≡ root (squared_radius s)) }
+pub fn latitude_of(t: &SineTable, s: SpherePoint, radius: u64) -> Authalic
+    requires { SmallPoint s × (radius ≡ root (squared_radius s)) }
     ensures { result ≡ latitude_of s }
 {
     let z = s.z;
@@ -87,8 +86,8 @@ fn turned(far: bool, size: u64) -> u64
 }
 
 // Δ of a point: |Δ| is taken from 180° where f is negative, then gets the sign of east.
-pub fn longitude_of(t: &Table, s: SpherePoint) -> i64
-    requires { IsTable t.now × SmallPoint s }
+pub fn longitude_of(t: &SineTable, s: SpherePoint) -> i64
+    requires { SmallPoint s }
     ensures { result ≡ longitude_of s }
 {
     let east = s.east;
