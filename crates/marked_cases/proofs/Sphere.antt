@@ -19,13 +19,12 @@ use Rattle.trig.proofs.Interface.{sine_zero, sine_right, cosine_zero, cosine_rig
 use Rattle.latitudes.specs.declared.Geodetic.{Geodetic}
 use Rattle.latitudes.specs.declared.AuthalicSeries.{AuthalicSeries}
 use Rattle.constants.specs.declared.Constants.{Constants}
-use Rattle.azimuthal_forward.specs.declared.PlaneAnswer.TheVariants.{Plane}
+use Rattle.azimuthal_forward.specs.Answer.{Plane, on_globe, nearness, easting_of, northing_of, forward_of}
 use Rattle.units.specs.Spans.{within, same}
 use Rattle.parameters.specs.ParameterSet.{polar, accepted_a, accepted_e2, accepted_lat0, accepted_lon0, accepted_false, set_refusal}
 use Rattle.latitudes.specs.Latitude.{coefficients, terms, rounded, beta}
 use Rattle.constants.specs.Derived.{to_mas, e4, e6, W, J, k2, k4, k6, series_of, β0, S0, C0, «V», m, D, Rq, RD, RN, constants_of}
 use Rattle.azimuthal_forward.specs.Steps.{H, b, c, u, v, w, G, dE, dN, near_enough}
-use Rattle.azimuthal_forward.specs.Answer.{on_globe, nearness, easting_of, northing_of, forward_of}
 use Rattle.azimuthal_forward.proofs.AnswerLaws.{forward_plane}
 use Rattle.marked_cases.specs.CaseTheorems.{sphere}
 

@@ -10,9 +10,7 @@ use Rattle.angles.specs.Angle.{angle}
 use Rattle.latitudes.specs.Latitude.{latitude}
 use Rattle.parameters.specs.declared.Parameters.{Parameters}
 use Rattle.parameters.specs.ParameterSet.{set_of}
-use Rattle.azimuthal_forward.specs.declared.PlaneAnswer.{PlaneAnswer}
-use Rattle.azimuthal_forward.specs.declared.PlaneAnswer.TheVariants.{Plane}
-use Rattle.azimuthal_forward.specs.Answer.{forward_of}
+use Rattle.azimuthal_forward.specs.Answer.{PlaneAnswer, Plane, forward_of}
 
 -- a number, or an answer of the forward steps, and what it is
 infix 40 ◌is◌ ◌goes_to◌
