@@ -1,5 +1,5 @@
 -- The set's own refusal comes first; with an accepted set the answer is that of `inverse_point`. Assumes nothing.
-use Rattle.std.proofs.Common.{ℤ, sym, ap₂, ap, ◌∙◌}
+use Rattle.std.proofs.Common.{sym, ap₂, ap, ◌∙◌}
 use Rattle.std.proofs.lemmas.Result.{err_from_is_err_and}
 use mir.Facts.{to_z-of_z}
 use Rattle.units.proofs.AnswerLaws.{and_told, number_some}

@@ -1,6 +1,5 @@
 -- For each of the two points it takes the stages of `inverse_point`, with the roots of that point. Assumes nothing.
-use Rattle.std.proofs.Common.{◌≡◌, ℕ, pos, List, [], ◌∷◌, map, length, get_or, refl, ap, ap₂, ◌∙◌, rules}
-use native.Mathlib.Omega.{arith}
+use Rattle.std.proofs.Common.{◌≡◌, ℕ, pos, List, [], ◌∷◌, length, get_or, ap, ap₂, ◌∙◌, rules}
 use mir.Syntax.{w64}
 use mir.Val.{SFits}
 use mir.Facts.{to_z-of_z}

@@ -1,5 +1,5 @@
 -- Each return follows from the tests that led there, and on the map X and Y are at most 2 units. Assumes nothing.
-use Rattle.std.proofs.Common.{◌≡◌, Bool, true, false, ℕ, ◌^◌, ◌<◌, ◌≤◌, ℤ, pos, nat_abs, ◌-ℤ◌, ◌*ℤ◌, ◌≤ℤ◌, lit<, sym, ap, ap₂, ◌∙◌, subst}
+use Rattle.std.proofs.Common.{◌≡◌, Bool, true, ◌^◌, ◌<◌, ◌≤◌, ℤ, pos, nat_abs, ◌-ℤ◌, ◌*ℤ◌, ◌≤ℤ◌, lit<, sym, ap, ap₂, ◌∙◌, subst}
 use Rattle.std.proofs.lemmas.Result.{err_from_is_err_and}
 use native.Mathlib.Nat.{le_refl, le_trans}
 use lib.Dec.{lit≤}
@@ -12,7 +12,7 @@ use Rattle.proof_kit.proofs.Size.{abs_sub_le}
 use Rattle.proof_kit.proofs.Order.{pos-≤ℤ}
 use Rattle.integers.specs.Near.{near}
 use Rattle.units.specs.Units.{U}
-use Rattle.units.specs.Refusals.{unless, too_far as too_far_number}
+use Rattle.units.specs.Refusals.{too_far as too_far_number}
 use Rattle.units.proofs.Spans.{Between}
 use Rattle.constants.specs.declared.Constants.{Constants}
 use Rattle.constants.proofs.ConstantsLaws.{Sound, sound_as}

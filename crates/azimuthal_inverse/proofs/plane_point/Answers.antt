@@ -1,5 +1,5 @@
 -- A point on the plane is near enough to the false origin for 64 bits. Assumes nothing.
-use Rattle.std.proofs.Common.{◌≡◌, Bool, true, ℤ, nat_abs, ◌≤◌, ◌-ℤ◌, sym, ap₂, ◌∙◌}
+use Rattle.std.proofs.Common.{◌≡◌, Bool, ℤ, nat_abs, ◌≤◌, ◌-ℤ◌, sym, ap₂, ◌∙◌}
 use Rattle.std.proofs.lemmas.Result.{err_from_is_err_and}
 use mir.Syntax.{w64}
 use mir.Val.{SFits}

@@ -1,5 +1,5 @@
 -- lon0 and Δ are each at most 180° in size. Assumes nothing.
-use Rattle.std.proofs.Common.{◌≡◌, ℤ, nat_abs, ◌≤◌, ◌+ℤ◌, ap, ap₂, ◌∙◌}
+use Rattle.std.proofs.Common.{ℤ, nat_abs, ◌≤◌, ◌+ℤ◌, ap, ap₂, ◌∙◌}
 use Rattle.proof_kit.proofs.Range.{code, fits, read, read_size, returned}
 use Rattle.proof_kit.proofs.Size.{as_size}
 use Rattle.units.specs.Units.{half_turn}
