@@ -1,10 +1,10 @@
 // A long history of both loops on more cells than there are slots: most of the time all 256 are in use, and slots that are freed are used again.
-use crate::rows::{add, cell_at, clear, look, make, read};
+use crate::rows::{NOTHING, add, cell_at, clear, look, make, read, sums};
 use cells::SIDE_100_M;
 use readings::Reading;
 use slots::LoopCell;
 use tallies::{NextTally, Tally};
-use units::refusals::NO_NEW_SLOT;
+use units::refusals::Refusal;
 
 const CALLS: u64 = 20_000;
 
@@ -29,23 +29,16 @@ fn power_of(k: u64) -> f64 {
 // Of eight calls one clears a cell, two are overloads and five are powers.
 fn call(tally: Tally, k: u64) -> NextTally {
     let cell = cell_of(k % CALLS * STRIDE);
-    let kind = k % 8;
-    if kind == 7 {
-        return tally.clear(cell);
+    match k % 8 {
+        0 | 1 => tally.add(cell, Reading::Overloaded(power_of(k))),
+        7 => tally.clear(cell),
+        _ => tally.add(cell, Reading::Power(power_of(k))),
     }
-    if kind < 2 {
-        return tally.add(cell, Reading::Overloaded(power_of(k)));
-    }
-    tally.add(cell, Reading::Power(power_of(k)))
 }
 
-fn after_calls(first: Tally) -> Tally {
-    let mut tally = first;
-    let mut k: u64 = 0;
-    while k < CALLS {
-        let next = call(tally, k);
-        tally = next.tally;
-        k += 1;
+fn after_calls(mut tally: Tally) -> Tally {
+    for k in 0..CALLS {
+        tally = call(tally, k).tally;
     }
     tally
 }
@@ -55,24 +48,23 @@ fn last_calls(rt: &impl Print, tally: Tally) {
     let held = cell_at(1, 19, 6);
     let next = cell_at(1, 0, 0);
     let late = cell_at(2, 1, 0);
-    let tally = add(rt, tally, next, Reading::Power(1.0), 0);
-    let tally = add(rt, tally, late, Reading::Power(1.0), NO_NEW_SLOT);
-    let tally = add(rt, tally, late, Reading::Overloaded(1.0), NO_NEW_SLOT);
-    let tally = add(rt, tally, held, Reading::Power(1.0), 0);
-    let tally = read(rt, tally, held, 40_000_000, 6, 2);
-    let tally = clear(rt, tally, held, 0);
-    let tally = add(rt, tally, late, Reading::Power(2.0), 0);
-    let tally = add(rt, tally, held, Reading::Power(1.0), NO_NEW_SLOT);
-    let tally = read(rt, tally, held, 0, 0, 0);
-    read(rt, tally, late, 2_000_000, 1, 0);
+    let no_slot = Err(Refusal::NoNewSlot);
+    let tally = add(rt, tally, next, Reading::Power(1.0), Ok(()));
+    let tally = add(rt, tally, late, Reading::Power(1.0), no_slot);
+    let tally = add(rt, tally, late, Reading::Overloaded(1.0), no_slot);
+    let tally = add(rt, tally, held, Reading::Power(1.0), Ok(()));
+    let tally = read(rt, tally, held, sums(40_000_000, 6, 2));
+    let tally = clear(rt, tally, held, Ok(()));
+    let tally = add(rt, tally, late, Reading::Power(2.0), Ok(()));
+    let tally = add(rt, tally, held, Reading::Power(1.0), no_slot);
+    let tally = read(rt, tally, held, NOTHING);
+    read(rt, tally, late, sums(2_000_000, 1, 0));
 }
 
 pub(crate) fn history(rt: &impl Print) {
-    let mut tally = after_calls(make(rt, SIDE_100_M, 0));
-    let mut k: u64 = 0;
-    while k < CELLS {
+    let mut tally = after_calls(make(rt, SIDE_100_M, Ok(())));
+    for k in 0..CELLS {
         tally = look(rt, tally, cell_of(k));
-        k += 1;
     }
     last_calls(rt, tally);
 }

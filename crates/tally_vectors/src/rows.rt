@@ -1,14 +1,13 @@
 // A row is one call: what is asked, what is answered, and what is expected. Each gives the next tally.
 ghost use Rattle.std.specs.Prelude.{◌≡◌};
 ghost use Rattle.tallies.specs.Tallies.{made, added, cleared, read_from};
-ghost use Rattle.tally_vectors.specs.InnerRows.{is_number, is_sums};
 
-use floats::is_finite;
-use printing::{bits, number, print, refusal, size, verdict};
+use printing::{Shown, verdict};
 use readings::Reading;
 use slots::LoopCell;
-use tallies::{NextTally, ReadTally, SumsAnswer, Tally, TallyAnswer};
-use units::both;
+use std::fmt;
+use tallies::{NextTally, Sums, Tally};
+use units::refusals::Refusal;
 
 pub(crate) fn cell_at(loop_number: u64, east: i64, north: i64) -> LoopCell {
     LoopCell {
@@ -18,111 +17,100 @@ pub(crate) fn cell_at(loop_number: u64, east: i64, north: i64) -> LoopCell {
     }
 }
 
-fn is_number(answer: TallyAnswer, right: u8) -> bool
-    ensures { result ≡ is_number answer right }
-{
-    match answer {
-        TallyAnswer::Done => right == 0,
-        TallyAnswer::Refused(number) => right == number,
+pub(crate) fn sums(sum: u64, count: u64, overloads: u64) -> Sums {
+    Sums {
+        sum,
+        count,
+        overloads,
     }
 }
 
-fn is_sums(answer: SumsAnswer, s: u64, c: u64, o: u64) -> bool
-    ensures { result ≡ is_sums answer s c o }
-{
-    match answer {
-        SumsAnswer::Sums {
+// The sums of a cell without a slot.
+pub(crate) const NOTHING: Sums = Sums {
+    sum: 0,
+    count: 0,
+    overloads: 0,
+};
+
+// A cell as a row shows it.
+#[derive(Clone, Copy)]
+struct ShownCell(LoopCell);
+
+impl fmt::Display for ShownCell {
+    fn fmt<W: fmt::Write>(&self, f: &mut fmt::Formatter<W>) -> fmt::Result {
+        let LoopCell {
+            loop_number,
+            east,
+            north,
+        } = self.0;
+        write!(f, "{loop_number} {east} {north}")
+    }
+}
+
+// A power by the double's bit pattern, where it is a finite number.
+#[derive(Clone, Copy)]
+struct Power(f64);
+
+impl fmt::Display for Power {
+    fn fmt<W: fmt::Write>(&self, f: &mut fmt::Formatter<W>) -> fmt::Result {
+        let milliwatts = self.0;
+        if !milliwatts.is_finite() {
+            return f.write_str("not finite");
+        }
+        let bits = milliwatts.to_bits();
+        write!(f, "{bits:016x}")
+    }
+}
+
+#[derive(Clone, Copy)]
+struct ShownReading(Reading);
+
+impl fmt::Display for ShownReading {
+    fn fmt<W: fmt::Write>(&self, f: &mut fmt::Formatter<W>) -> fmt::Result {
+        match self.0 {
+            Reading::Power(milliwatts) => write!(f, "power {}", Power(milliwatts)),
+            Reading::Overloaded(milliwatts) => write!(f, "overloaded {}", Power(milliwatts)),
+        }
+    }
+}
+
+#[derive(Clone, Copy)]
+struct ShownSums(Sums);
+
+impl fmt::Display for ShownSums {
+    fn fmt<W: fmt::Write>(&self, f: &mut fmt::Formatter<W>) -> fmt::Result {
+        let Sums {
             sum,
             count,
             overloads,
-        } => both(sum == s, both(count == c, overloads == o)),
-        SumsAnswer::Refused(_) => false,
+        } = self.0;
+        write!(f, "{sum} {count} {overloads}")
     }
 }
 
-fn show(rt: &impl Print, right: u8) {
-    if right == 0 {
-        print(rt, b" done");
-    } else {
-        refusal(rt, right);
-    }
-}
+// What making a tally, adding to it and clearing a cell answer.
+pub(crate) type Answer = Result<(), Refusal>;
 
-fn show_answer(rt: &impl Print, answer: TallyAnswer) {
-    match answer {
-        TallyAnswer::Done => {
-            show(rt, 0);
-        }
-        TallyAnswer::Refused(number) => {
-            show(rt, number);
-        }
-    }
-}
-
-fn show_cell(rt: &impl Print, cell: LoopCell) {
-    size(rt, cell.loop_number);
-    number(rt, cell.east);
-    number(rt, cell.north);
-}
-
-fn show_sums(rt: &impl Print, answer: SumsAnswer) {
-    match answer {
-        SumsAnswer::Sums {
-            sum,
-            count,
-            overloads,
-        } => {
-            size(rt, sum);
-            size(rt, count);
-            size(rt, overloads);
-        }
-        SumsAnswer::Refused(number) => {
-            refusal(rt, number);
-        }
-    }
+fn shown(answer: Answer) -> Shown<&'static str> {
+    Shown(answer.map(|()| "done"))
 }
 
 // The row from the answer on.
-fn end(rt: &impl Print, next: NextTally, right: u8) -> Tally
+fn end(rt: &impl Print, next: NextTally, right: Answer) -> Tally
     ensures { result ≡ next.tally }
 {
-    let answer = next.answer;
-    print(rt, b":");
-    show_answer(rt, answer);
-    print(rt, b", expected");
-    show(rt, right);
-    verdict(rt, is_number(answer, right));
+    let found = shown(next.answer);
+    let expected = shown(right);
+    let _ = print!(rt; ": {found}, expected {expected}");
+    verdict(rt, next.answer == right);
     next.tally
 }
 
-pub(crate) fn make(rt: &impl Print, side: i64, right: u8) -> Tally
+pub(crate) fn make(rt: &impl Print, side: i64, right: Answer) -> Tally
     ensures { result ≡ (made side).tally }
 {
-    print(rt, b"make");
-    number(rt, side);
+    let _ = print!(rt; "make {side}");
     end(rt, Tally::new(side), right)
-}
-
-// The double's bit pattern, where it is a finite number.
-fn show_power(rt: &impl Print, milliwatts: f64) {
-    if is_finite(milliwatts) {
-        bits(rt, f64::to_bits(milliwatts));
-    } else {
-        print(rt, b" not finite");
-    }
-}
-
-fn show_reading(rt: &impl Print, reading: Reading) {
-    match reading {
-        Reading::Power(milliwatts) => {
-            print(rt, b" power");
-            show_power(rt, milliwatts);
-        }
-        Reading::Overloaded(milliwatts) => {
-            print(rt, b" overloaded");
-            show_power(rt, milliwatts);
-        }
-    }
 }
 
 pub(crate) fn add(
@@ -130,64 +118,42 @@ pub(crate) fn add(
     tally: Tally,
     cell: LoopCell,
     reading: Reading,
-    right: u8,
+    right: Answer,
 ) -> Tally
     ensures { result ≡ (added tally cell reading).tally }
 {
-    print(rt, b"add");
-    show_cell(rt, cell);
-    show_reading(rt, reading);
+    let _ = print!(rt; "add {} {}", ShownCell(cell), ShownReading(reading));
     end(rt, tally.add(cell, reading), right)
 }
 
-pub(crate) fn clear(rt: &impl Print, tally: Tally, cell: LoopCell, right: u8) -> Tally
+pub(crate) fn clear(rt: &impl Print, tally: Tally, cell: LoopCell, right: Answer) -> Tally
     ensures { result ≡ (cleared tally cell).tally }
 {
-    print(rt, b"clear");
-    show_cell(rt, cell);
+    let _ = print!(rt; "clear {}", ShownCell(cell));
     end(rt, tally.clear(cell), right)
 }
 
-// The same of reading, from the sums on.
-fn end_read(rt: &impl Print, read: ReadTally, sum: u64, count: u64, overloads: u64) -> Tally
-    ensures { result ≡ read.tally }
-{
-    let answer = read.answer;
-    print(rt, b":");
-    show_sums(rt, answer);
-    print(rt, b", expected");
-    size(rt, sum);
-    size(rt, count);
-    size(rt, overloads);
-    verdict(rt, is_sums(answer, sum, count, overloads));
-    read.tally
-}
-
-pub(crate) fn read(
-    rt: &impl Print,
-    tally: Tally,
-    cell: LoopCell,
-    sum: u64,
-    count: u64,
-    overloads: u64,
-) -> Tally
+// What is read is expected to be these sums.
+pub(crate) fn read(rt: &impl Print, tally: Tally, cell: LoopCell, sums: Sums) -> Tally
     ensures { result ≡ (read_from tally cell).tally }
 {
-    print(rt, b"read");
-    show_cell(rt, cell);
-    end_read(rt, tally.read(cell), sum, count, overloads)
+    let read = tally.read(cell);
+    let found = Shown(read.answer.map(ShownSums));
+    let _ = print!(rt;
+        "read {}: {found}, expected {}",
+        ShownCell(cell),
+        ShownSums(sums)
+    );
+    verdict(rt, read.answer == Ok(sums));
+    read.tally
 }
 
 // Nothing is expected: the row is held to the stored output alone.
 pub(crate) fn look(rt: &impl Print, tally: Tally, cell: LoopCell) -> Tally
     ensures { result ≡ (read_from tally cell).tally }
 {
-    print(rt, b"read");
-    show_cell(rt, cell);
-    print(rt, b":");
     let read = tally.read(cell);
-    let answer = read.answer;
-    show_sums(rt, answer);
-    print(rt, b"\n");
+    let found = Shown(read.answer.map(ShownSums));
+    let _ = println!(rt; "read {}: {found}", ShownCell(cell));
     read.tally
 }
