@@ -24,16 +24,14 @@ use Rattle.trig.proofs.Interface.{A, sine_zero, sine_right, sine_odd, cosine_zer
 use Rattle.latitudes.specs.declared.Geodetic.{Geodetic}
 use Rattle.parameters.specs.declared.Parameters.{Parameters}
 use Rattle.constants.specs.declared.Constants.{Constants}
-use Rattle.azimuthal_forward.specs.declared.PlaneAnswer.TheVariants.{Plane, Refused}
-use Rattle.azimuthal_inverse.specs.declared.GeodeticAnswer.TheVariants.{Position}
+use Rattle.azimuthal_forward.specs.Answer.{Plane, Refused, nearness, easting_of, northing_of, forward_of, plane_told}
+use Rattle.azimuthal_inverse.specs.Answer.{Position, inverse_of, geodetic_told}
 use Rattle.units.specs.Spans.{within, same}
 use Rattle.parameters.specs.ParameterSet.{polar, set_refusal}
 use Rattle.latitudes.proofs.AuthalicLaws.{beta_mas, beta_odd, beta_north_pole, beta_south_pole}
 use Rattle.constants.specs.Derived.{series_of, β0, S0, C0, constants_of}
 use Rattle.azimuthal_forward.specs.Steps.{H, b, c, u, v, w, G, dE, dN}
-use Rattle.azimuthal_forward.specs.Answer.{nearness, easting_of, northing_of, forward_of, plane_told}
 use Rattle.azimuthal_inverse.specs.Steps.{at_origin}
-use Rattle.azimuthal_inverse.specs.Answer.{inverse_of, geodetic_told}
 use Rattle.parameters.proofs.AcceptedSet.{accepted_fields, lat0_size, polar_cases}
 use Rattle.azimuthal_forward.proofs.ForwardLaws.{H-least}
 use Rattle.azimuthal_forward.proofs.AnswerLaws.{forward_too_far, forward_plane}

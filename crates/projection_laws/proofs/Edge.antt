@@ -17,14 +17,13 @@ use Rattle.integers.proofs.Rounding.{near_zero, near_whole}
 use Rattle.units.specs.Units.{unit, U, plane_limit}
 use Rattle.parameters.specs.declared.Parameters.{Parameters}
 use Rattle.constants.specs.declared.Constants.{Constants}
-use Rattle.azimuthal_inverse.specs.declared.GeodeticAnswer.TheVariants.{Refused}
+use Rattle.azimuthal_inverse.specs.Answer.{Refused, answer_from, inverse_of, geodetic_told}
 use Rattle.units.specs.Spans.{within, same}
 use Rattle.parameters.specs.ParameterSet.{set_refusal}
 use Rattle.constants.specs.Derived.{RD, constants_of}
 use Rattle.azimuthal_forward.specs.Steps.{near_enough}
 use Rattle.azimuthal_inverse.specs.Steps.{K, X, Y, at_origin, on_map}
 use Rattle.sphere_points.specs.Sphere.{G, versine_of}
-use Rattle.azimuthal_inverse.specs.Answer.{answer_from, inverse_of, geodetic_told}
 use Rattle.parameters.proofs.AcceptedSet.{accepted_fields}
 use Rattle.constants.proofs.ConstantsLaws.{Sound, sound}
 use Rattle.azimuthal_inverse.proofs.AnswerLaws.{from_too_far, inverse_on_plane}

@@ -17,8 +17,7 @@ use Rattle.trig.proofs.Interface.{sine_full_turn, sine_quarter_turn}
 use Rattle.latitudes.specs.declared.Geodetic.{Geodetic}
 use Rattle.parameters.specs.declared.Parameters.{Parameters}
 use Rattle.constants.specs.declared.Constants.{Constants}
-use Rattle.azimuthal_inverse.specs.declared.GeodeticAnswer.{GeodeticAnswer}
-use Rattle.azimuthal_inverse.specs.declared.GeodeticAnswer.TheVariants.{Position}
+use Rattle.azimuthal_inverse.specs.Answer.{GeodeticAnswer, Position, latitude_from, longitude_from, inverse_far, inverse_refusal, inverse_latitude, inverse_longitude, geodetic_told, inverse_of, inverse_told}
 use Rattle.units.specs.Spans.{within, on_plane, wrapped}
 use Rattle.units.specs.Refusals.{unless}
 use Rattle.units.specs.declared.answers.Told.{Told}
@@ -30,8 +29,6 @@ use Rattle.azimuthal_forward.specs.Steps.{b, c, u, v, w, G, dE, dN}
 use Rattle.azimuthal_forward.specs.Answer.{on_globe, nearness, forward_far, forward_refusal, easting_of, northing_of, forward_of}
 use Rattle.azimuthal_inverse.specs.Steps.{at_origin, found}
 use Rattle.sphere_points.specs.Sphere.{latitude_of, longitude_of}
-use Rattle.azimuthal_inverse.specs.Answer.{latitude_from, longitude_from, inverse_far, inverse_refusal, inverse_latitude, inverse_longitude}
-use Rattle.azimuthal_inverse.specs.Answer.{geodetic_told, inverse_of, inverse_told}
 use Rattle.azimuthal_inverse.proofs.AnswerLaws.{inverse_tells}
 use Rattle.parameters.proofs.AcceptedSet.{Accepted, accepted_fields, lat0_size}
 use Rattle.geodetic_search.proofs.GeodeticLaws.{geodetic_size}

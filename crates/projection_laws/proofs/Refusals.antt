@@ -11,12 +11,9 @@ use Rattle.units.specs.Answers.{accepted, refused, answered}
 use Rattle.units.proofs.Chains.{Gives, chain, another}
 use Rattle.latitudes.specs.declared.Geodetic.{Geodetic}
 use Rattle.parameters.proofs.Fields.{set_gives}
-use Rattle.azimuthal_forward.specs.declared.PlaneAnswer.TheVariants.{Plane, Refused}
-use Rattle.azimuthal_forward.specs.Answer.{forward_far, forward_refusal, easting_of, northing_of, forward_of, forward_told}
+use Rattle.azimuthal_forward.specs.Answer.{Plane, Refused, forward_far, forward_refusal, easting_of, northing_of, forward_of, forward_told}
 use Rattle.azimuthal_forward.proofs.AnswerLaws.{forward_tells}
-use Rattle.azimuthal_inverse.specs.declared.GeodeticAnswer.TheVariants.{Position, Refused as NotFound}
-use Rattle.azimuthal_inverse.specs.Answer.{far_from, inverse_far, inverse_refusal, inverse_latitude, inverse_longitude}
-use Rattle.azimuthal_inverse.specs.Answer.{inverse_of, inverse_told}
+use Rattle.azimuthal_inverse.specs.Answer.{Position, Refused as NotFound, far_from, inverse_far, inverse_refusal, inverse_latitude, inverse_longitude, inverse_of, inverse_told}
 use Rattle.azimuthal_inverse.proofs.AnswerLaws.{inverse_tells}
 use Rattle.latitudes.specs.Latitude.{latitude}
 use Rattle.projection_laws.specs.Theorems.{whole_refusals, ForwardNumbers, InverseNumbers, ForwardRefused, InverseRefused}

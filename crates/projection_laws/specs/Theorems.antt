@@ -10,11 +10,9 @@ use Rattle.parameters.specs.declared.Parameters.{Parameters}
 use Rattle.parameters.specs.ParameterSet.{polar, accepted_e2, set_refusal, etrs_laea}
 use Rattle.parameters.specs.FieldTheorems.{Field, number_of, set_refusals, wrong}
 use Rattle.constants.specs.Derived.{series_of, RD, constants_of}
-use Rattle.azimuthal_forward.specs.declared.PlaneAnswer.TheVariants.{Plane, Refused}
-use Rattle.azimuthal_forward.specs.Answer.{forward_refusal, forward_of, plane_told}
-use Rattle.azimuthal_inverse.specs.declared.GeodeticAnswer.TheVariants.{Position, Refused as NotFound}
+use Rattle.azimuthal_forward.specs.Answer.{Plane, Refused, forward_refusal, forward_of, plane_told}
+use Rattle.azimuthal_inverse.specs.Answer.{Position, Refused as NotFound, inverse_refusal, inverse_of, geodetic_told}
 use Rattle.azimuthal_inverse.specs.Steps.{on_map}
-use Rattle.azimuthal_inverse.specs.Answer.{inverse_refusal, inverse_of, geodetic_told}
 
 -- a latitude as far on the other side of the Equator
 abbrev pub opposite : Geodetic → Geodetic

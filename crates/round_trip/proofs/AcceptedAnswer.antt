@@ -3,7 +3,6 @@
 use mathlib.Core.Path.{◌≡◌, refl}
 use mathlib.Core.Bool.{true}
 use Prim.Native.Nat.{ℕ, zero, suc}
-use native.Mathlib.Omega.{arith}
 use lib.IntN.{ℤ}
 use Rattle.units.specs.Refusals.{unless}
 use Rattle.units.specs.Answers.{answered}
@@ -11,17 +10,13 @@ use Rattle.units.proofs.Chains.{link_passed, both_passed}
 use Rattle.latitudes.specs.declared.Geodetic.{Geodetic}
 use Rattle.parameters.specs.declared.Parameters.{Parameters}
 use Rattle.parameters.specs.ParameterSet.{set_refusal}
-use Rattle.azimuthal_forward.specs.declared.PlaneAnswer.TheVariants.{Plane, Refused}
+use Rattle.azimuthal_forward.specs.Answer.{Plane, Refused, on_globe, nearness, forward_far, forward_refusal, easting_of, northing_of, forward_of}
 use Rattle.azimuthal_forward.specs.Steps.{near_enough}
-use Rattle.azimuthal_forward.specs.Answer.{on_globe, nearness, forward_far, forward_refusal, easting_of, northing_of, forward_of}
 
 -- an answer with two values has the number 0, and they are its values
 pub plane_parts : (n : ℕ) (E N E' N' : ℤ) → answered Refused n (Plane E N) ≡ Plane E' N' → (n ≡ 0) × (E ≡ E') × (N ≡ N')
 plane_parts zero E N E' N' e = (refl, (cc), (cc))
-plane_parts (suc n) E N E' N' e =
-    let z : ◌≡◌ {A = ℕ} 0 1 = cc in
-    let none : ⊥ = omega arith in
-    absurd none
+plane_parts (suc n) E N E' N' e = cc
 
 pub record AcceptedAnswer (p : Parameters) (φ : Geodetic) (lon E N : ℤ) : Type 0 where
   pub set_accepted : set_refusal p ≡ 0

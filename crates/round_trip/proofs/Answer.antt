@@ -29,7 +29,7 @@ use Rattle.latitudes.specs.declared.AuthalicSeries.{AuthalicSeries}
 use Rattle.latitudes.specs.declared.Geodetic.{Geodetic}
 use Rattle.parameters.specs.declared.Parameters.{Parameters}
 use Rattle.sphere_points.specs.declared.SpherePoint.{SpherePoint}
-use Rattle.azimuthal_inverse.specs.declared.GeodeticAnswer.TheVariants.{Position}
+use Rattle.azimuthal_inverse.specs.Answer.{Position, answer_from}
 use Rattle.units.specs.Spans.{same, within, wrapped}
 use Rattle.latitudes.proofs.AuthalicLaws.{beta_mas, beta_slope, beta_size}
 use Rattle.latitudes.specs.Latitude.{beta}
@@ -38,7 +38,6 @@ use Rattle.geodetic_search.specs.Reverse.{geodetic}
 use Rattle.azimuthal_forward.specs.Steps.{H, near_enough}
 use Rattle.azimuthal_inverse.specs.Steps.{X, Y, K, found, at_origin, on_map}
 use Rattle.sphere_points.specs.Sphere.{versine_of, G, up, level, z_of, f_of, point_of, latitude_of, longitude_of}
-use Rattle.azimuthal_inverse.specs.Answer.{answer_from}
 use Rattle.units.proofs.Spans.{Between, same_equal, wrapped_low, wrapped_high, wrapped_between}
 use Rattle.integers.proofs.Greatest.{both}
 use Rattle.constants.proofs.ConstantsLaws.{Sound}

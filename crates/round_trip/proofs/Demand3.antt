@@ -16,7 +16,7 @@ use Rattle.proof_kit.proofs.Ring.{ring, quote}
 use Rattle.constants.specs.declared.Constants.{Constants}
 use Rattle.latitudes.specs.declared.Geodetic.{Geodetic}
 use Rattle.parameters.specs.declared.Parameters.{Parameters}
-use Rattle.azimuthal_inverse.specs.declared.GeodeticAnswer.{GeodeticAnswer}
+use Rattle.azimuthal_inverse.specs.Answer.{GeodeticAnswer, answer_from, inverse_of}
 use Rattle.units.specs.Spans.{within, on_plane}
 use Rattle.parameters.specs.ParameterSet.{set_refusal}
 use Rattle.constants.specs.Derived.{β0, S0, C0, constants_of}
@@ -24,7 +24,6 @@ use Rattle.azimuthal_forward.specs.Steps.{c, dE, dN, near_enough}
 use Rattle.azimuthal_forward.specs.Answer.{nearness, easting_of, northing_of, forward_of}
 use Rattle.azimuthal_inverse.specs.Steps.{K, on_map}
 use Rattle.sphere_points.specs.Sphere.{G as G'}
-use Rattle.azimuthal_inverse.specs.Answer.{answer_from, inverse_of}
 use Rattle.units.proofs.Spans.{Between, size_inside}
 use Rattle.parameters.proofs.AcceptedSet.{accepted_fields, lat0_size}
 use Rattle.constants.proofs.ConstantsLaws.{sound}

@@ -23,7 +23,8 @@ use Rattle.trig.specs.Sine.{sine, cosine}
 use Rattle.angles.specs.Angle.{under, angle}
 use Rattle.trig.proofs.Interface.{sine_odd, sine_supplement, sine_quarter_turn, cosine_quarter_turn, cosine_even, cosine_complement}
 use Rattle.trig.proofs.Interface.{sine_nonneg, cosine_nonneg, sine_mono, cosine_anti}
-use Rattle.angles.proofs.Angles.{under_zero, under_falls, angle_none, angle_some}
+use Rattle.angles.specs.InnerThreshold.{under_zero, under_falls}
+use Rattle.angles.proofs.Angles.{angle_none, angle_some}
 use Rattle.round_trip.proofs.Circle.{pos_minus, sine_complement, cosine_supplement, sine_before, cosine_before}
 
 -- on which side of the direction θ the direction (f, g) lies

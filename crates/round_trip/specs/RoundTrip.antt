@@ -7,12 +7,8 @@ use Rattle.latitudes.specs.Latitude.{beta}
 use Rattle.parameters.specs.declared.Parameters.{Parameters}
 use Rattle.parameters.specs.ParameterSet.{set_refusal}
 use Rattle.constants.specs.Derived.{series_of}
-use Rattle.azimuthal_forward.specs.declared.PlaneAnswer.{PlaneAnswer}
-use Rattle.azimuthal_forward.specs.declared.PlaneAnswer.TheVariants.{Plane, Refused}
-use Rattle.azimuthal_forward.specs.Answer.{nearness, forward_of}
-use Rattle.azimuthal_inverse.specs.declared.GeodeticAnswer.{GeodeticAnswer}
-use Rattle.azimuthal_inverse.specs.declared.GeodeticAnswer.TheVariants.{Position, Refused as NotFound}
-use Rattle.azimuthal_inverse.specs.Answer.{inverse_of}
+use Rattle.azimuthal_forward.specs.Answer.{PlaneAnswer, Plane, Refused, nearness, forward_of}
+use Rattle.azimuthal_inverse.specs.Answer.{GeodeticAnswer, Position, Refused as NotFound, inverse_of}
 
 -- ---- the longitude gap
 

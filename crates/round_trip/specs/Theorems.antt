@@ -5,8 +5,7 @@ use Rattle.units.specs.Units.{full_turn}
 use Rattle.units.specs.Spans.{on_plane}
 use Rattle.latitudes.specs.declared.Geodetic.{Geodetic}
 use Rattle.parameters.specs.declared.Parameters.{Parameters}
-use Rattle.azimuthal_forward.specs.declared.PlaneAnswer.TheVariants.{Plane}
-use Rattle.azimuthal_forward.specs.Answer.{forward_of}
+use Rattle.azimuthal_forward.specs.Answer.{Plane, forward_of}
 use Rattle.azimuthal_inverse.specs.Answer.{inverse_of}
 use Rattle.round_trip.specs.RoundTrip.{turn_gap, latitude_bound, gap_bound, Conditions, CloseTo}
 
