@@ -2,7 +2,7 @@
 ghost use Rattle.code_reading.specs.Reading.{told_of_text};
 ghost use Rattle.laea_c.specs.Calls.{CodeAnswered, CodeReadAnswered};
 
-use c_answers::{answer_read, answer_written};
+use c_answers::answer;
 use code_reading::read_code;
 use grid_codes::write_code;
 
@@ -17,7 +17,7 @@ pub extern "C" fn laea1_write_code(
 ) -> u8
     ensures { CodeAnswered side east north text.old text.new length.old length.new result }
 {
-    answer_written(write_code(side, east, north, text), length)
+    answer(write_code(side, east, north, text), length)
 }
 
 // Reads a code: the side, and the cell's numbers east and north.
@@ -25,5 +25,5 @@ pub extern "C" fn laea1_write_code(
 pub extern "C" fn laea1_read_code(text: &[u8], out: &mut [i64; 3]) -> u8
     ensures { CodeReadAnswered (told_of_text text.now) out.old out.new result }
 {
-    answer_read(read_code(text), out)
+    answer(read_code(text).map(|cell| [cell.side, cell.east, cell.north]), out)
 }

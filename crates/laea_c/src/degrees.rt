@@ -4,9 +4,10 @@ ghost use Rattle.points.specs.Points.{forward_row, inverse_row};
 ghost use Rattle.c_answers.specs.Answers.{AnswersFloats};
 ghost use Rattle.laea_c.specs.Calls.{parameters_of};
 
-use crate::sets::{Set, parameters_of};
-use c_answers::answer_floats;
-use pairs::{GeodeticPair, PlanePair, geodetic_row, plane_row};
+use crate::sets::Set;
+use c_answers::answer;
+use pairs::{GeodeticPair, PlanePair};
+use parameters::Parameters;
 use points::{forward_degrees, inverse_metres};
 
 // Degrees to metres: easting and northing.
@@ -18,7 +19,8 @@ pub extern "C" fn laea1_forward(set: Set, latitude: f64, longitude: f64, out: &m
         latitude,
         longitude,
     };
-    answer_floats(plane_row(forward_degrees(parameters_of(set), at)), out)
+    let given = forward_degrees(Parameters::from(set), at);
+    answer(given.map(|to| [to.first, to.second]), out)
 }
 
 // Metres to degrees: latitude and longitude.
@@ -27,5 +29,6 @@ pub extern "C" fn laea1_inverse(set: Set, first: f64, second: f64, out: &mut [f6
     ensures { AnswersFloats (inverse_row (parameters_of set) (metres first second)) out.old out.new result }
 {
     let at = PlanePair { first, second };
-    answer_floats(geodetic_row(inverse_metres(parameters_of(set), at)), out)
+    let given = inverse_metres(Parameters::from(set), at);
+    answer(given.map(|to| [to.latitude, to.longitude]), out)
 }

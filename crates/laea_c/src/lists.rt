@@ -2,8 +2,9 @@
 ghost use Rattle.row_lists.specs.Rows.{forward_at, inverse_at};
 ghost use Rattle.laea_c.specs.Calls.{parameters_of, ListAnswered};
 
-use crate::sets::{Set, parameters_of};
-use c_answers::answer_list;
+use crate::sets::Set;
+use c_answers::answer;
+use parameters::Parameters;
 use point_lists::{forward_list, inverse_list};
 
 // Degrees to metres.
@@ -21,8 +22,8 @@ pub extern "C" fn laea1_forward_list(
         leading.old leading.new trailing.old trailing.new
         marks.old marks.new count.old count.new result }
 {
-    let p = parameters_of(set);
-    answer_list(
+    let p = Parameters::from(set);
+    answer(
         forward_list(p, latitudes, longitudes, leading, trailing, marks),
         count,
     )
@@ -43,8 +44,8 @@ pub extern "C" fn laea1_inverse_list(
         latitudes.old latitudes.new longitudes.old longitudes.new
         marks.old marks.new count.old count.new result }
 {
-    let p = parameters_of(set);
-    answer_list(
+    let p = Parameters::from(set);
+    answer(
         inverse_list(p, leading, trailing, latitudes, longitudes, marks),
         count,
     )

@@ -3,6 +3,7 @@ ghost use Rattle.std.specs.Prelude.{◌≡◌};
 ghost use Rattle.parameters.specs.ParameterSet.{set_refusal};
 ghost use Rattle.laea_c.specs.Calls.{parameters_of};
 
+use c_answers::number_of;
 use latitudes::Geodetic;
 use parameters::Parameters;
 
@@ -20,16 +21,18 @@ pub struct Set {
 }
 
 // The library's set of these fields.
-pub(crate) fn parameters_of(set: Set) -> Parameters
-    ensures { result ≡ parameters_of set }
-{
-    Parameters {
-        a: set.a,
-        e2: set.e2,
-        lat0: Geodetic(set.lat0),
-        lon0: set.lon0,
-        false_easting: set.false_easting,
-        false_northing: set.false_northing,
+impl From<Set> for Parameters {
+    ghost from_gives = { λ set p. p ≡ parameters_of set };
+
+    fn from(set: Set) -> Parameters {
+        Parameters {
+            a: set.a,
+            e2: set.e2,
+            lat0: Geodetic(set.lat0),
+            lon0: set.lon0,
+            false_easting: set.false_easting,
+            false_northing: set.false_northing,
+        }
     }
 }
 
@@ -38,5 +41,5 @@ pub(crate) fn parameters_of(set: Set) -> Parameters
 pub extern "C" fn laea1_set_refusal(set: Set) -> u8
     ensures { result ≡ set_refusal (parameters_of set) }
 {
-    parameters_of(set).refusal()
+    number_of(Parameters::from(set).check())
 }

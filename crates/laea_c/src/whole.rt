@@ -5,12 +5,13 @@ ghost use Rattle.azimuthal_inverse.specs.Answer.{inverse_told};
 ghost use Rattle.c_answers.specs.Answers.{AnswersWhole};
 ghost use Rattle.laea_c.specs.Calls.{parameters_of};
 
-use crate::sets::{Set, parameters_of};
-use azimuthal_forward::{forward, plane_told};
-use azimuthal_inverse::{geodetic_told, inverse};
-use c_answers::answer_whole;
-use cells::{cell, cell_told};
+use crate::sets::Set;
+use azimuthal_forward::forward;
+use azimuthal_inverse::inverse;
+use c_answers::answer;
+use cells::cell;
 use latitudes::Geodetic;
+use parameters::Parameters;
 
 // mas to cm: easting and northing.
 #[unsafe(no_mangle)]
@@ -22,8 +23,8 @@ pub extern "C" fn laea1_forward_whole(
 ) -> u8
     ensures { AnswersWhole (forward_told (parameters_of set) (record { 0 = latitude }) longitude) out.old out.new result }
 {
-    let answer = forward(parameters_of(set), Geodetic(latitude), longitude);
-    answer_whole(plane_told(answer), out)
+    let given = forward(Parameters::from(set), Geodetic(latitude), longitude);
+    answer(given.map(|at| [at.easting, at.northing]), out)
 }
 
 // cm to mas: latitude and longitude.
@@ -36,8 +37,8 @@ pub extern "C" fn laea1_inverse_whole(
 ) -> u8
     ensures { AnswersWhole (inverse_told (parameters_of set) easting northing) out.old out.new result }
 {
-    let answer = inverse(parameters_of(set), easting, northing);
-    answer_whole(geodetic_told(answer), out)
+    let given = inverse(Parameters::from(set), easting, northing);
+    answer(given.map(|at| [at.latitude.0, at.longitude]), out)
 }
 
 // The cell of a position in cm: its numbers east and north.
@@ -45,5 +46,6 @@ pub extern "C" fn laea1_inverse_whole(
 pub extern "C" fn laea1_cell(side: i64, easting: i64, northing: i64, out: &mut [i64; 2]) -> u8
     ensures { AnswersWhole (told_of_cell side easting northing) out.old out.new result }
 {
-    answer_whole(cell_told(cell(side, easting, northing)), out)
+    let given = cell(side, easting, northing);
+    answer(given.map(|numbers| [numbers.east, numbers.north]), out)
 }
