@@ -1,19 +1,19 @@
--- The set as C has it, and what calls for C on lists, codes and tallies return and write, over the definitions of the crates that they call.
--- A lent list is the list of its values.
+-- The set as C has it, and what calls for C return and write, over the definitions of the crates that they call.
+-- A lent list is the list of its values: of the whole numbers themselves (ℤ) where it is of i64.
 use Rattle.std.specs.Prelude.{ℕ, ◌≡◌, List, [], ◌∷◌, ℤ, length, Float}
+use Rattle.units.specs.declared.answers.Told.{Told}
 use Rattle.units.specs.Answers.{answered, written}
 use Rattle.grid_codes.specs.Codes.{code_text, write_refusal, into_first}
 use Rattle.code_reading.specs.Reading.{CodeTold}
 use Rattle.parameters.specs.declared.Parameters.{Parameters}
 use Rattle.parameters.specs.ParameterSet.{set_of}
-use Rattle.pairs.specs.declared.Row.{Row}
+use Rattle.pairs.specs.Pairs.{Row}
 use Rattle.row_lists.specs.Rows.{zeros}
-use Rattle.point_lists.specs.Lists.{list_refusal, list_answer, ListCall}
+use Rattle.point_lists.specs.Lists.{ListAnswer, Count, Refused, list_refusal, list_answer, ListCall}
 use Rattle.slots.specs.declared.LoopCell.{LoopCell}
-use Rattle.tallies.specs.declared.SumsAnswer.{SumsAnswer}
-use Rattle.tallies.specs.Tallies.{sums_told}
-use Rattle.c_answers.specs.Answers.{count_after, sums_after}
+use Rattle.tallies.specs.Tallies.{SumsAnswer, Sums, Unread, NextTally, sums_told, tally_told}
 use Rattle.laea_c.specs.declared.sets.Set.{Set}
+use Rattle.laea_c.specs.declared.power.TallyResult.{TallyResult}
 
 -- the version 0.8.0: 10,000 times the major number, 100 times the minor one, and the patch
 abbrev pub version : ℕ
@@ -22,6 +22,24 @@ version = 800
 -- the parameter set of these fields
 abbrev pub parameters_of : Set → Parameters
 parameters_of set = set_of set.a set.e2 set.lat0 set.lon0 set.false_easting set.false_northing
+
+-- A call for a single answer: it returns the refusal number; `out` has the two values where that is 0, else what it had.
+pub record Answered {A : Type 0} (refusal : ℕ) (first second : A) (out out' : List A) (r : ℕ) : Type 0 where
+  pub result_is : r ≡ refusal
+  pub out_is : out' ≡ written refusal (first ∷ second ∷ []) out
+
+-- an answer in degrees or metres
+abbrev pub AnswersFloats : Row → (out out' : List Float) → ℕ → Type 0
+AnswersFloats answer = Answered answer.mark answer.first answer.second
+
+-- an answer in whole numbers
+abbrev pub AnswersWhole : Told → (out out' : List ℤ) → ℕ → Type 0
+AnswersWhole answer = Answered answer.refusal answer.first answer.second
+
+-- the count after a call with this answer: the answer's, or what it was
+abbrev pub count_after : ListAnswer → ℕ → ℕ
+count_after (Count count) before = count
+count_after (Refused number) before = before
 
 -- A call with the set p that works out each point by `row`: the result is its refusal number; the lists are as the library's call leaves them;
 -- the count is that of the marks that are 0, or what it was where the call is refused.
@@ -46,6 +64,15 @@ pub record CodeReadAnswered (told : CodeTold) (out out' : List ℤ) (r : ℕ) : 
 -- the loop's cell with these numbers
 abbrev pub loop_cell : ℕ → ℤ → ℤ → LoopCell
 loop_cell loop east north = record { loop_number = loop; east = east; north = north }
+
+-- what a call on a tally gives
+abbrev pub tally_result : NextTally → TallyResult
+tally_result next = record { tally = next.tally; refusal = tally_told next.answer }
+
+-- what a call that reads a cell leaves: sum, count and overload count, or what was there
+abbrev pub sums_after : SumsAnswer → List ℕ → List ℕ
+sums_after (Sums sum count overloads) before = sum ∷ count ∷ overloads ∷ []
+sums_after (Unread number) before = before
 
 -- A call that reads a cell of a tally: the result is its refusal number; `out` has sum, count and overload count where that is 0, else what it had.
 pub record SumsAnswered (answer : SumsAnswer) (out out' : List ℕ) (r : ℕ) : Type 0 where
