@@ -3,7 +3,7 @@
 use Rattle.std.specs.Prelude.{ℕ, Result, Ok, Err}
 use Rattle.units.specs.declared.refusals.Refusal.{Refusal}
 
--- what stands in a lent place after a call: what is given, or what was there
-abbrev pub left : {A : Type 0} → Result A Refusal → A → A
-left (Ok value) before = value
-left (Err refusal) before = before
+-- what stands in a lent place after a call: what is given, as C has it, or what was there
+abbrev pub left : {V A : Type 0} → (V → A) → Result V Refusal → A → A
+left in_c (Ok value) before = in_c value
+left in_c (Err refusal) before = before

@@ -25,5 +25,5 @@ pub extern "C" fn laea1_write_code(
 pub extern "C" fn laea1_read_code(text: &[u8], out: &mut [i64; 3]) -> u8
     ensures { CodeReadAnswered (told_of_text text.now) out.old out.new result }
 {
-    answer(read_code(text).map(|cell| [cell.side, cell.east, cell.north]), out)
+    answer(read_code(text), out)
 }

@@ -1,8 +1,7 @@
 // One point, in degrees and metres.
 ghost use Rattle.pairs.specs.Pairs.{degrees, metres};
 ghost use Rattle.points.specs.Points.{forward_row, inverse_row};
-ghost use Rattle.c_answers.specs.Answers.{AnswersFloats};
-ghost use Rattle.laea_c.specs.Calls.{parameters_of};
+ghost use Rattle.laea_c.specs.Calls.{parameters_of, AnswersFloats};
 
 use crate::sets::Set;
 use c_answers::answer;
@@ -19,8 +18,7 @@ pub extern "C" fn laea1_forward(set: Set, latitude: f64, longitude: f64, out: &m
         latitude,
         longitude,
     };
-    let given = forward_degrees(Parameters::from(set), at);
-    answer(given.map(|to| [to.first, to.second]), out)
+    answer(forward_degrees(Parameters::from(set), at), out)
 }
 
 // Metres to degrees: latitude and longitude.
@@ -29,6 +27,5 @@ pub extern "C" fn laea1_inverse(set: Set, first: f64, second: f64, out: &mut [f6
     ensures { AnswersFloats (inverse_row (parameters_of set) (metres first second)) out.old out.new result }
 {
     let at = PlanePair { first, second };
-    let given = inverse_metres(Parameters::from(set), at);
-    answer(given.map(|to| [to.latitude, to.longitude]), out)
+    answer(inverse_metres(Parameters::from(set), at), out)
 }

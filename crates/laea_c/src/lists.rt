@@ -23,10 +23,8 @@ pub extern "C" fn laea1_forward_list(
         marks.old marks.new count.old count.new result }
 {
     let p = Parameters::from(set);
-    answer(
-        forward_list(p, latitudes, longitudes, leading, trailing, marks),
-        count,
-    )
+    let given = forward_list(p, latitudes, longitudes, leading, trailing, marks);
+    answer(given, count)
 }
 
 // Metres to degrees.
@@ -45,8 +43,6 @@ pub extern "C" fn laea1_inverse_list(
         marks.old marks.new count.old count.new result }
 {
     let p = Parameters::from(set);
-    answer(
-        inverse_list(p, leading, trailing, latitudes, longitudes, marks),
-        count,
-    )
+    let given = inverse_list(p, leading, trailing, latitudes, longitudes, marks);
+    answer(given, count)
 }

@@ -102,6 +102,5 @@ pub extern "C" fn laea2_tally_read(
     ensures { SumsAnswered (read_from tally (loop_cell loop_number east north)).answer out.old out.new result }
 {
     let cell = loop_cell(loop_number, east, north);
-    let read = tally.read(cell);
-    answer(read.answer.map(|sums| [sums.sum, sums.count, sums.overloads]), out)
+    answer(tally.read(cell).answer, out)
 }

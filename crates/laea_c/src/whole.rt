@@ -2,8 +2,7 @@
 ghost use Rattle.cells.specs.Cells.{told_of_cell};
 ghost use Rattle.azimuthal_forward.specs.Answer.{forward_told};
 ghost use Rattle.azimuthal_inverse.specs.Answer.{inverse_told};
-ghost use Rattle.c_answers.specs.Answers.{AnswersWhole};
-ghost use Rattle.laea_c.specs.Calls.{parameters_of};
+ghost use Rattle.laea_c.specs.Calls.{parameters_of, AnswersWhole};
 
 use crate::sets::Set;
 use azimuthal_forward::forward;
@@ -23,8 +22,7 @@ pub extern "C" fn laea1_forward_whole(
 ) -> u8
     ensures { AnswersWhole (forward_told (parameters_of set) (record { 0 = latitude }) longitude) out.old out.new result }
 {
-    let given = forward(Parameters::from(set), Geodetic(latitude), longitude);
-    answer(given.map(|at| [at.easting, at.northing]), out)
+    answer(forward(Parameters::from(set), Geodetic(latitude), longitude), out)
 }
 
 // cm to mas: latitude and longitude.
@@ -37,8 +35,7 @@ pub extern "C" fn laea1_inverse_whole(
 ) -> u8
     ensures { AnswersWhole (inverse_told (parameters_of set) easting northing) out.old out.new result }
 {
-    let given = inverse(Parameters::from(set), easting, northing);
-    answer(given.map(|at| [at.latitude.0, at.longitude]), out)
+    answer(inverse(Parameters::from(set), easting, northing), out)
 }
 
 // The cell of a position in cm: its numbers east and north.
@@ -46,6 +43,5 @@ pub extern "C" fn laea1_inverse_whole(
 pub extern "C" fn laea1_cell(side: i64, easting: i64, northing: i64, out: &mut [i64; 2]) -> u8
     ensures { AnswersWhole (told_of_cell side easting northing) out.old out.new result }
 {
-    let given = cell(side, easting, northing);
-    answer(given.map(|numbers| [numbers.east, numbers.north]), out)
+    answer(cell(side, easting, northing), out)
 }
