@@ -14,7 +14,7 @@ use Rattle.constants.specs.Derived.{«V», m}
 use Rattle.constants.proofs.SeriesLaws.{About, at_least}
 use Rattle.constants.proofs.ScaleLaws.{square_size, V-about, V-root-least, V-root-most}
 use Rattle.billionths.proofs.Calls.{back, fits_is, back_is, product_is, quotient_is, unit_root_is}
-use Rattle.constants.proofs.parallel_ratio.Goals as goal
+use Rattle.constants.proofs.ellipsoid.Ellipsoid.parallel_ratio.Goals as goal
 
 -- the sine and the cosine of an angle, read back
 sine-is : {s : ℤ} (x : ℤ) → s ≡ sine x → back s ≡ sine x
@@ -44,34 +44,34 @@ product-requires c = rw (sine-is c.args.lat0.0 c.sine_cosine-on.ensures.0) (omeg
 
 pub product-v-requires : goal.product-v-requires
 product-v-requires c =
-    rw (kept c.args.e2 c.requires.0 (lit< tt), square-is c.args.lat0.0 c.product.type_inv c.product.ensures c.sine_cosine-on.ensures.0)
-    (omega (arith, c.requires.0, square_size c.args.lat0.0))
+    rw (kept c.args.self.e2 c.args.self.e2_size (lit< tt), square-is c.args.lat0.0 c.product.type_inv c.product.ensures c.sine_cosine-on.ensures.0)
+    (omega (arith, c.args.self.e2_size, square_size c.args.lat0.0))
 
 pub overflow_sub-v : goal.overflow_sub-v
 overflow_sub-v c =
     let square = square-is c.args.lat0.0 c.product.type_inv c.product.ensures c.sine_cosine-on.ensures.0 in
-    fits_is (v-is c.args.e2 c.args.lat0 c.requires.0 c.product.result c.product-v.type_inv c.product-v.ensures square) (v-about c.args.e2 c.args.lat0 c.requires.0).high (lit< tt)
+    fits_is (v-is c.args.self.e2 c.args.lat0 c.args.self.e2_size c.product.result c.product-v.type_inv c.product-v.ensures square) (v-about c.args.self.e2 c.args.lat0 c.args.self.e2_size).high (lit< tt)
 
 pub unit_root-requires : goal.unit_root-requires
 unit_root-requires c =
     let square = square-is c.args.lat0.0 c.product.type_inv c.product.ensures c.sine_cosine-on.ensures.0 in
-    let about = v-about c.args.e2 c.args.lat0 c.requires.0 in
-    rw (back_is (v-is c.args.e2 c.args.lat0 c.requires.0 c.product.result c.product-v.type_inv c.product-v.ensures square) about.high (lit< tt))
+    let about = v-about c.args.self.e2 c.args.lat0 c.args.self.e2_size in
+    rw (back_is (v-is c.args.self.e2 c.args.lat0 c.args.self.e2_size c.product.result c.product-v.type_inv c.product-v.ensures square) about.high (lit< tt))
     (at_least 0 about.same zero-le, omega arith)
 
 pub quotient-requires : goal.quotient-requires
 quotient-requires c =
-    let e2 : ℤ = c.args.e2 in
+    let e2 : ℤ = c.args.self.e2 in
     let φ0 = c.args.lat0 in
     let square = square-is c.args.lat0.0 c.product.type_inv c.product.ensures c.sine_cosine-on.ensures.0 in
-    let v = v-is e2 φ0 c.requires.0 c.product.result c.product-v.type_inv c.product-v.ensures square in
-    rw (cosine-is c.args.lat0.0 c.sine_cosine-on.ensures.1, root-is e2 φ0 c.requires.0 _ c.unit_root.type_inv c.unit_root.ensures v)
-    (omega (arith, cosine_size φ0.0), pos-≤ℤ (omega (arith, V-root-least e2 φ0 c.requires.0)), omega (arith, V-root-most e2 φ0 c.requires.0))
+    let v = v-is e2 φ0 c.args.self.e2_size c.product.result c.product-v.type_inv c.product-v.ensures square in
+    rw (cosine-is c.args.lat0.0 c.sine_cosine-on.ensures.1, root-is e2 φ0 c.args.self.e2_size _ c.unit_root.type_inv c.unit_root.ensures v)
+    (omega (arith, cosine_size φ0.0), pos-≤ℤ (omega (arith, V-root-least e2 φ0 c.args.self.e2_size)), omega (arith, V-root-most e2 φ0 c.args.self.e2_size))
 
 pub returns : goal.returns
 unfolding m
 returns c =
     let square = square-is c.args.lat0.0 c.product.type_inv c.product.ensures c.sine_cosine-on.ensures.0 in
-    let v = v-is c.args.e2 c.args.lat0 c.requires.0 c.product.result c.product-v.type_inv c.product-v.ensures square in
+    let v = v-is c.args.self.e2 c.args.lat0 c.args.self.e2_size c.product.result c.product-v.type_inv c.product-v.ensures square in
     quotient_is c.quotient.type_inv c.quotient.ensures (cosine-is c.args.lat0.0 c.sine_cosine-on.ensures.1)
-    (root-is c.args.e2 c.args.lat0 c.requires.0 _ c.unit_root.type_inv c.unit_root.ensures v)
+    (root-is c.args.self.e2 c.args.lat0 c.args.self.e2_size _ c.unit_root.type_inv c.unit_root.ensures v)
