@@ -9,6 +9,7 @@ ghost use Rattle.c_answers.specs.Answers.{left};
 use azimuthal_forward::{GeodeticPosition, PlanePosition};
 use cells::CellNumbers;
 use code_reading::CodeCell;
+use pairs::{GeodeticPair, PlanePair};
 use tallies::Sums;
 use units::refusals::Refusal;
 
@@ -50,6 +51,26 @@ impl InC for GeodeticPosition {
 
     fn in_c(self) -> [i64; 2] {
         [self.latitude.0, self.longitude]
+    }
+}
+
+impl InC for PlanePair {
+    type Lent = [f64; 2];
+
+    ghost lent = { λ to. to.first ∷ to.second ∷ [] };
+
+    fn in_c(self) -> [f64; 2] {
+        [self.first, self.second]
+    }
+}
+
+impl InC for GeodeticPair {
+    type Lent = [f64; 2];
+
+    ghost lent = { λ to. to.latitude ∷ to.longitude ∷ [] };
+
+    fn in_c(self) -> [f64; 2] {
+        [self.latitude, self.longitude]
     }
 }
 

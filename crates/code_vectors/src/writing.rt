@@ -1,54 +1,24 @@
 // Codes that are written.
-ghost use Rattle.std.specs.Prelude.{◌≡◌};
-ghost use Rattle.code_vectors.specs.InnerRows.{same_answer, is_written};
+ghost use Rattle.std.specs.Prelude.{IsTrue, ◌↔◌};
+ghost use Rattle.grid_codes.specs.Codes.{written_answer};
+ghost use Rattle.code_vectors.specs.InnerRows.{IsWritten};
 
-use azimuthal_forward::{forward, plane_told};
-use cells::{SIDE_1_KM, SIDE_10_KM, SIDE_100_M, cell, cell_told};
-use grid_codes::{WrittenCode, write_code};
+use azimuthal_forward::forward;
+use cells::{CellNumbers, SIDE_1_KM, SIDE_10_KM, SIDE_100_M, cell};
+use grid_codes::write_code;
 use latitudes::Geodetic;
 use parameters::Parameters;
-use printing::{number, print, refusal, size, verdict};
-use text::is_same;
-use units::both;
-use units::refusals::{LITTLE_ROOM, NEGATIVE_CELL, OUT_OF_LIMITS};
+use printing::{Shown, verdict};
+use units::refusals::Refusal;
 
 // What stands in the lent bytes before a call.
-const LENT: [u8; 20] = [b'.'; 20];
+const LENT: &str = "....................";
 
-fn is_answer(found: WrittenCode, right: WrittenCode) -> bool
-    ensures { result ≡ same_answer found right }
-{
-    match found {
-        WrittenCode::Length(bytes) => match right {
-            WrittenCode::Length(expected) => bytes == expected,
-            WrittenCode::Refused(_) => false,
-        },
-        WrittenCode::Refused(n) => match right {
-            WrittenCode::Length(_) => false,
-            WrittenCode::Refused(expected) => n == expected,
-        },
-    }
-}
+type Answer = Result<u64, Refusal>;
 
-fn asked(rt: &impl Print, side: i64, east: i64, north: i64) {
-    print(rt, b"write");
-    number(rt, side);
-    number(rt, east);
-    number(rt, north);
-    print(rt, b":");
-}
-
-fn show(rt: &impl Print, answer: WrittenCode, bytes: &[u8]) {
-    match answer {
-        WrittenCode::Length(n) => {
-            size(rt, n);
-        }
-        WrittenCode::Refused(n) => {
-            refusal(rt, n);
-        }
-    }
-    print(rt, b" ");
-    print(rt, bytes);
+// An answer, and what is left in the bytes.
+fn show(rt: &impl Print, answer: Answer, bytes: &[u8]) {
+    let _ = print!(rt; " {} {}", Shown(answer), bytes.escape_ascii());
 }
 
 // Writes into the bytes that are lent.
@@ -58,105 +28,62 @@ fn row(
     east: i64,
     north: i64,
     bytes: &mut [u8],
-    right: WrittenCode,
-    expected: &[u8],
+    right: Answer,
+    expected: &str,
 ) -> bool
-    ensures { result ≡ is_written side east north bytes.old right expected.now }
+    ensures { IsTrue result ↔ IsWritten side east north bytes.old (written_answer right) expected.now }
 {
-    asked(rt, side, east, north);
     let found = write_code(side, east, north, bytes);
+    let _ = print!(rt; "write {side} {east} {north}:");
     show(rt, found, bytes);
-    print(rt, b", expected");
-    show(rt, right, expected);
-    verdict(rt, both(is_answer(found, right), is_same(bytes, expected)))
+    let _ = print!(rt; ", expected");
+    show(rt, right, expected.as_bytes());
+    verdict(rt, found == right && *bytes == *expected.as_bytes())
 }
 
 // Writes into twenty bytes.
-fn written(rt: &impl Print, side: i64, east: i64, north: i64, length: u64, expected: &[u8]) {
-    let mut bytes = LENT;
-    row(
-        rt,
-        side,
-        east,
-        north,
-        &mut bytes,
-        WrittenCode::Length(length),
-        expected,
-    );
+fn written(rt: &impl Print, side: i64, east: i64, north: i64, length: u64, expected: &str) {
+    let mut bytes = [b'.'; 20];
+    row(rt, side, east, north, &mut bytes, Ok(length), expected);
 }
 
-fn refused_row(rt: &impl Print, side: i64, east: i64, north: i64, n: u8) {
-    let mut bytes = LENT;
-    row(
-        rt,
-        side,
-        east,
-        north,
-        &mut bytes,
-        WrittenCode::Refused(n),
-        &LENT,
-    );
+fn refused_row(rt: &impl Print, side: i64, east: i64, north: i64, refusal: Refusal) {
+    let mut bytes = [b'.'; 20];
+    row(rt, side, east, north, &mut bytes, Err(refusal), LENT);
 }
 
-// The position of document 001's example, through forward and cell.
+// The position of document 001's example, through forward and cell; were it refused, its code would be another.
 pub(crate) fn document_001(rt: &impl Print) {
-    let plane = plane_told(forward(Parameters::etrs_laea(), Geodetic(180_000_000), 18_000_000));
-    let found = cell_told(cell(SIDE_1_KM, plane.first, plane.second));
-    written(
-        rt,
-        SIDE_1_KM,
-        found.first,
-        found.second,
-        13,
-        b"1kmN2999E3962.......",
-    );
+    let at = forward(Parameters::ETRS_LAEA, Geodetic(180_000_000), 18_000_000);
+    let CellNumbers { east, north } = at
+        .and_then(|at| cell(SIDE_1_KM, at.easting, at.northing))
+        .unwrap_or(CellNumbers { east: 0, north: 0 });
+    written(rt, SIDE_1_KM, east, north, 13, "1kmN2999E3962.......");
 }
 
 // The shortest and the longest code of each side.
 pub(crate) fn ends(rt: &impl Print) {
-    written(rt, SIDE_100_M, 0, 0, 8, b"100mN0E0............");
-    written(
-        rt,
-        SIDE_100_M,
-        500_000,
-        500_000,
-        18,
-        b"100mN500000E500000..",
-    );
-    written(rt, SIDE_1_KM, 0, 0, 7, b"1kmN0E0.............");
-    written(rt, SIDE_1_KM, 50_000, 50_000, 15, b"1kmN50000E50000.....");
-    written(rt, SIDE_10_KM, 0, 0, 8, b"10kmN0E0............");
-    written(rt, SIDE_10_KM, 5_000, 5_000, 14, b"10kmN5000E5000......");
+    written(rt, SIDE_100_M, 0, 0, 8, "100mN0E0............");
+    written(rt, SIDE_100_M, 500_000, 500_000, 18, "100mN500000E500000..");
+    written(rt, SIDE_1_KM, 0, 0, 7, "1kmN0E0.............");
+    written(rt, SIDE_1_KM, 50_000, 50_000, 15, "1kmN50000E50000.....");
+    written(rt, SIDE_10_KM, 0, 0, 8, "10kmN0E0............");
+    written(rt, SIDE_10_KM, 5_000, 5_000, 14, "10kmN5000E5000......");
 }
 
 pub(crate) fn refused(rt: &impl Print) {
-    refused_row(rt, 1_000, 0, 0, OUT_OF_LIMITS);
-    refused_row(rt, SIDE_100_M, 500_001, -1, OUT_OF_LIMITS);
-    refused_row(rt, SIDE_1_KM, -1, -50_001, OUT_OF_LIMITS);
-    refused_row(rt, SIDE_10_KM, -5_000, 0, NEGATIVE_CELL);
-    refused_row(rt, SIDE_10_KM, 5_000, -1, NEGATIVE_CELL);
+    refused_row(rt, 1_000, 0, 0, Refusal::OutOfLimits);
+    refused_row(rt, SIDE_100_M, 500_001, -1, Refusal::OutOfLimits);
+    refused_row(rt, SIDE_1_KM, -1, -50_001, Refusal::OutOfLimits);
+    refused_row(rt, SIDE_10_KM, -5_000, 0, Refusal::NegativeCell);
+    refused_row(rt, SIDE_10_KM, 5_000, -1, Refusal::NegativeCell);
 }
 
 // As many bytes as the code has, and one less.
 pub(crate) fn rooms(rt: &impl Print) {
     let mut eight = [b'.'; 8];
-    row(
-        rt,
-        SIDE_100_M,
-        0,
-        0,
-        &mut eight,
-        WrittenCode::Length(8),
-        b"100mN0E0",
-    );
+    row(rt, SIDE_100_M, 0, 0, &mut eight, Ok(8), "100mN0E0");
     let mut seven = [b'.'; 7];
-    row(
-        rt,
-        SIDE_100_M,
-        0,
-        0,
-        &mut seven,
-        WrittenCode::Refused(LITTLE_ROOM),
-        b".......",
-    );
+    let right = Err(Refusal::LittleRoom);
+    row(rt, SIDE_100_M, 0, 0, &mut seven, right, ".......");
 }

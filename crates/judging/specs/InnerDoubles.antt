@@ -1,10 +1,11 @@
 -- Doubles, rows and lists compared with those expected. A double is compared by its bits, so that −0.0 is not 0.0.
-use Rattle.std.specs.Prelude.{ℕ, ◌+◌, ◌%◌, ◌^◌, Bool, cond, ◌&&◌, List, [], ◌∷◌, map, ◌==◌, to_bits, Float}
+use Rattle.std.specs.Prelude.{ℕ, ◌+◌, ◌%◌, ◌^◌, Bool, cond, ◌&&◌, List, [], ◌∷◌, map, ◌==◌, to_bits, Float, Result, Ok, Err}
 use Rattle.std.specs.Float.{binary64}
 use Rattle.floats.specs.Limits.{is_finite}
-use Rattle.pairs.specs.declared.Row.{Row}
-use Rattle.point_lists.specs.declared.ListAnswer.{ListAnswer}
-use Rattle.point_lists.specs.Lists.{list_told}
+use Rattle.units.specs.Refusals.{number}
+use Rattle.units.specs.declared.refusals.Refusal.{Refusal}
+use Rattle.pairs.specs.Pairs.{Row, accepted_row, refused_row}
+use Rattle.point_lists.specs.Lists.{ListAnswer, list_told}
 use Rattle.judging.specs.declared.doubles.Digest.{Digest}
 
 -- a finite double's bits; what is not finite has one pattern, which is none of theirs
@@ -16,6 +17,15 @@ abbrev pub alike : Row → Row → Bool
 alike found right =
     (found.mark == right.mark)
     && (bits_of found.first == bits_of right.first && bits_of found.second == bits_of right.second)
+
+-- two pairs of values alike in every bit
+abbrev pub same_bits : Float × Float → Float × Float → Bool
+same_bits found right = bits_of found.0 == bits_of right.0 && bits_of found.1 == bits_of right.1
+
+-- an answer as a list holds it
+abbrev pub row_told : Result (Float × Float) Refusal → Row
+row_told (Ok values) = accepted_row values.0 values.1
+row_told (Err refusal) = refused_row (number refusal)
 
 -- what a list call's answer tells: its refusal number and its count
 abbrev pub is_told : ListAnswer → ℕ → ℕ → Bool

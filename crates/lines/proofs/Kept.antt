@@ -1,7 +1,7 @@
 -- The first 26 bytes of a line decide its answer, since they decide what it asks for. Assumes nothing.
 use mathlib.Core.Path.{ap}
 use mathlib.Core.List.{[], ◌∷◌, ◌++◌}
-use Rattle.requests.specs.declared.Request.{Request}
+use Rattle.requests.specs.Requests.{Request}
 use Rattle.requests.proofs.Long.{kept_alike}
 use Rattle.text.specs.Ascii.{newline}
 use Rattle.lines.specs.Lines.{reply_of, answer_text, answer_line}

@@ -1,4 +1,3 @@
-pub mod Etrs
 pub mod Sizes
 pub mod Kept
 pub mod Paper

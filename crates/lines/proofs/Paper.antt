@@ -16,14 +16,12 @@ use Rattle.latitudes.specs.declared.Geodetic.{Geodetic}
 use Rattle.latitudes.specs.Latitude.{terms, rounded, beta}
 use Rattle.parameters.specs.ParameterSet.{etrs_laea}
 use Rattle.constants.specs.Derived.{to_mas, e4, e6, k2, k4, k6, series_of, β0, S0, C0, constants_of}
-use Rattle.azimuthal_forward.specs.declared.PlaneAnswer.TheVariants.{Plane}
 use Rattle.azimuthal_forward.specs.Steps.{H, b, c, u, v, w, G, dE, dN, near_enough}
-use Rattle.azimuthal_forward.specs.Answer.{on_globe, nearness, easting_of, northing_of, forward_of}
+use Rattle.azimuthal_forward.specs.Answer.{Plane, on_globe, nearness, easting_of, northing_of, forward_of}
 use Rattle.azimuthal_forward.proofs.ForwardLaws.{H-least}
 use Rattle.azimuthal_forward.proofs.AnswerLaws.{forward_off_globe, forward_too_far, forward_plane}
-use Rattle.azimuthal_inverse.specs.declared.GeodeticAnswer.TheVariants.{Position}
 use Rattle.azimuthal_inverse.specs.Steps.{at_origin}
-use Rattle.azimuthal_inverse.specs.Answer.{inverse_of}
+use Rattle.azimuthal_inverse.specs.Answer.{Position, inverse_of}
 use Rattle.azimuthal_inverse.proofs.AnswerLaws.{from_origin, inverse_on_plane}
 use Rattle.text.specs.Cutting.{index_after, index_of}
 use Rattle.text.specs.Numbers.{unsigned_of, number_of, decimal, number_text}

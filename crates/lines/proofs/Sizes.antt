@@ -32,9 +32,7 @@ use Rattle.sphere_points.specs.Sphere.{latitude_of, longitude_of, G as inverseG}
 use Rattle.azimuthal_inverse.specs.Answer.{answer_from, inverse_of}
 use Rattle.sphere_points.proofs.AngleLaws.{longitude_size}
 use Rattle.azimuthal_inverse.proofs.AnswerLaws.{from_origin, from_off_map, from_too_far, from_position, inverse_off_plane, inverse_on_plane}
-use Rattle.requests.specs.declared.Request.{Request}
-use Rattle.requests.specs.declared.Request.TheVariants.{Forward, Inverse, Bad}
-use Rattle.requests.specs.Requests.{request_of}
+use Rattle.requests.specs.Requests.{Request, Forward, Inverse, Bad, request_of}
 use Rattle.replies.specs.Replies.{reply_text}
 use Rattle.replies.proofs.Sizes.{Small, reply_size}
 use Rattle.lines.specs.Lines.{plane_reply, position_reply, reply_of, answer_text, answer_line, answer_most}

@@ -1,20 +1,12 @@
 -- Document 01, "The program": one line in, one line out, for ETRS-LAEA in whole units. Bytes are ASCII.
 use Rattle.std.specs.Prelude.{ℕ, List, [], ◌∷◌, ◌++◌}
 use Rattle.text.specs.Ascii.{newline}
-use Rattle.requests.specs.declared.Request.{Request}
-use Rattle.requests.specs.declared.Request.TheVariants.{Forward, Inverse, Bad}
-use Rattle.requests.specs.Requests.{request_of}
+use Rattle.requests.specs.Requests.{Request, Forward, Inverse, Bad, request_of}
 use Rattle.latitudes.specs.Latitude.{latitude}
 use Rattle.parameters.specs.ParameterSet.{etrs_laea}
-use Rattle.azimuthal_forward.specs.declared.PlaneAnswer.{PlaneAnswer}
-use Rattle.azimuthal_forward.specs.declared.PlaneAnswer.TheVariants.{Plane, Refused}
-use Rattle.azimuthal_forward.specs.Answer.{forward_of}
-use Rattle.azimuthal_inverse.specs.declared.GeodeticAnswer.{GeodeticAnswer}
-use Rattle.azimuthal_inverse.specs.declared.GeodeticAnswer.TheVariants.{Position, Refused as NotFound}
-use Rattle.azimuthal_inverse.specs.Answer.{inverse_of}
-use Rattle.replies.specs.declared.Reply.{Reply}
-use Rattle.replies.specs.declared.Reply.TheVariants.{Plane as PlaneReply, Position as PositionReply, Refused as RefusedReply, Bad as BadReply}
-use Rattle.replies.specs.Replies.{reply_text}
+use Rattle.azimuthal_forward.specs.Answer.{PlaneAnswer, Plane, Refused, forward_of}
+use Rattle.azimuthal_inverse.specs.Answer.{GeodeticAnswer, Position, Refused as NotFound, inverse_of}
+use Rattle.replies.specs.Replies.{Reply, Plane as PlaneReply, Position as PositionReply, Refused as RefusedReply, Bad as BadReply, reply_text}
 
 -- "It answers E and N in cm, P latitude and longitude in mas, or the refusal."
 abbrev pub plane_reply : PlaneAnswer → Reply

@@ -4,74 +4,93 @@
 ghost use Rattle.std.specs.Prelude.{◌≡◌, ◌+◌, ◌≤◌, length};
 ghost use Rattle.text.specs.Pasting.{Put};
 ghost use Rattle.parameters.specs.ParameterSet.{etrs_laea};
-ghost use Rattle.constants.specs.InnerPrepared.{Prepared};
+ghost use Rattle.azimuthal_forward.specs.Answer.{plane_answer};
+ghost use Rattle.azimuthal_inverse.specs.Answer.{geodetic_answer};
+ghost use Rattle.requests.specs.Requests.{asked};
+ghost use Rattle.replies.specs.Replies.{replied};
 ghost use Rattle.lines.specs.Lines.{plane_reply, position_reply, reply_of, answer_line, answer_most};
 
-use azimuthal_forward::{PlaneAnswer, forward_point};
-use azimuthal_inverse::{GeodeticAnswer, inverse_point};
-use constants::{Constants, constants_of};
+use arrayvec::ArrayString;
+use azimuthal_forward::{GeodeticPosition, PlanePosition, forward_point};
+use azimuthal_inverse::inverse_point;
+use constants::projection::Projection;
 use latitudes::Geodetic;
 use parameters::Parameters;
-use replies::{Reply, put_reply};
+use replies::{Reply, push_reply};
 use requests::{Request, read_request};
-use sine_table::Table;
+use sine_table::SineTable;
+use text::put_bytes;
+use units::refusals::Refusal;
 
 // The most bytes of an answer's line, with its newline.
 pub const ANSWER_MOST: usize = 32;
 
-fn plane_reply(answer: PlaneAnswer) -> Reply
-    ensures { result ≡ plane_reply answer }
+// The projection that lines are answered for.
+pub fn etrs_laea(table: &SineTable) -> Projection<'_>
+    ensures { result.set ≡ etrs_laea }
+{
+    Projection::new(table, Parameters::etrs_laea()).unwrap()
+}
+
+fn plane_reply(answer: Result<PlanePosition, Refusal>) -> Reply
+    ensures { replied result ≡ plane_reply (plane_answer answer) }
 {
     match answer {
-        PlaneAnswer::Plane { easting, northing } => Reply::Plane(easting, northing),
-        PlaneAnswer::Refused(number) => Reply::Refused(number),
+        Ok(position) => Reply::Plane(position.easting, position.northing),
+        Err(refusal) => Reply::Refused(refusal),
     }
 }
 
-fn position_reply(answer: GeodeticAnswer) -> Reply
-    ensures { result ≡ position_reply answer }
+fn position_reply(answer: Result<GeodeticPosition, Refusal>) -> Reply
+    ensures { replied result ≡ position_reply (geodetic_answer answer) }
 {
     match answer {
-        GeodeticAnswer::Position {
-            latitude,
-            longitude,
-        } => Reply::Position(latitude.0, longitude),
-        GeodeticAnswer::Refused(number) => Reply::Refused(number),
+        Ok(position) => Reply::Position(position.latitude.0, position.longitude),
+        Err(refusal) => Reply::Refused(refusal),
     }
 }
 
-// The reply to a request, with the table and ETRS-LAEA's constants at hand.
-fn reply_to(t: &Table, k: Constants, request: Request) -> Reply
-    requires { Prepared t.now etrs_laea k }
-    ensures { result ≡ reply_of request }
+// The reply to a request, or to a line of another form.
+#[tactic(auto, unfolding(crate::specs::Lines::reply_of))]
+fn reply_to(projection: &Projection, request: Option<Request>) -> Reply
+    requires { projection.now.set ≡ etrs_laea }
+    ensures { replied result ≡ reply_of (asked request) }
 {
     match request {
-        Request::Forward(lat, lon) => {
-            plane_reply(forward_point(t, Parameters::etrs_laea(), k, Geodetic(lat), lon))
+        Some(Request::Forward(lat, lon)) => {
+            plane_reply(forward_point(projection, Geodetic(lat), lon))
         }
-        Request::Inverse(easting, northing) => {
-            position_reply(inverse_point(t, Parameters::etrs_laea(), k, easting, northing))
+        Some(Request::Inverse(easting, northing)) => {
+            position_reply(inverse_point(projection, easting, northing))
         }
-        Request::Bad => Reply::Bad,
+        None => Reply::Bad,
     }
 }
 
-// The answer's line to a line, at an index of out, and the index after it; with the table and
-// ETRS-LAEA's constants at hand.
-pub fn answer_at(t: &Table, k: Constants, line: &[u8], out: &mut [u8], at: usize) -> usize
-    requires { Prepared t.now etrs_laea k × (at + answer_most ≤ length out.old) }
+// The answer's line to a line.
+fn answer_line(projection: &Projection, line: &[u8]) -> ArrayString<ANSWER_MOST>
+    requires { projection.now.set ≡ etrs_laea }
+    ensures { result.bytes ≡ answer_line line.now }
+{
+    let mut text = ArrayString::new();
+    push_reply(&mut text, reply_to(projection, read_request(line)));
+    text.push_str("\n");
+    text
+}
+
+// The answer's line to a line, at an index of out, and the index after it.
+pub fn answer_at(projection: &Projection, line: &[u8], out: &mut [u8], at: usize) -> usize
+    requires set { projection.now.set ≡ etrs_laea }
+    requires room { at + answer_most ≤ length out.old }
     ensures { Put out.old at (answer_line line.now) out.new result }
 {
-    let end = put_reply(out, at, reply_to(t, k, read_request(line)));
-    out[end] = b'\n';
-    end + 1
+    put_bytes(out, at, answer_line(projection, line).as_bytes())
 }
 
 // Any line of any bytes: the customer's call. The bytes past the answer stay as they were.
 pub fn answer(line: &[u8], out: &mut [u8; ANSWER_MOST]) -> usize
     ensures { Put out.old 0 (answer_line line.now) out.new result }
 {
-    let t = sine_table::table();
-    let k = constants_of(&t, Parameters::etrs_laea());
-    answer_at(&t, k, line, out, 0)
+    let table = SineTable::new();
+    answer_at(&etrs_laea(&table), line, out, 0)
 }

@@ -6,17 +6,12 @@ use Rattle.floats.specs.Conversion.{whole_of, float_of}
 use Rattle.floats.specs.Limits.{is_finite, within_limit, latitude_limit, longitude_limit, plane_limit_float}
 use Rattle.latitudes.specs.declared.Geodetic.{Geodetic}
 use Rattle.latitudes.specs.Latitude.{latitude}
-use Rattle.azimuthal_forward.specs.declared.PlaneAnswer.{PlaneAnswer}
-use Rattle.azimuthal_forward.specs.declared.PlaneAnswer.TheVariants.{Plane, Refused as PlaneRefused}
-use Rattle.azimuthal_inverse.specs.declared.GeodeticAnswer.{GeodeticAnswer}
-use Rattle.azimuthal_inverse.specs.declared.GeodeticAnswer.TheVariants.{Position, Refused as GeodeticRefused}
+use Rattle.azimuthal_forward.specs.Answer.{PlaneAnswer, Plane, Refused as PlaneRefused}
+use Rattle.azimuthal_inverse.specs.Answer.{GeodeticAnswer, Position, Refused as GeodeticRefused}
 use Rattle.pairs.specs.declared.GeodeticPair.{GeodeticPair}
 use Rattle.pairs.specs.declared.PlanePair.{PlanePair}
-use Rattle.pairs.specs.declared.PlanePairAnswer.{PlanePairAnswer}
-use Rattle.pairs.specs.declared.PlanePairAnswer.TheVariants.{Metres, Refused}
-use Rattle.pairs.specs.declared.GeodeticPairAnswer.{GeodeticPairAnswer}
-use Rattle.pairs.specs.declared.GeodeticPairAnswer.TheVariants.{Degrees, Refused as NotFound}
-use Rattle.pairs.specs.declared.Row.{Row}
+use Rattle.pairs.specs.PlanePairAnswer.{PlanePairAnswer, Metres, Refused}
+use Rattle.pairs.specs.GeodeticPairAnswer.{GeodeticPairAnswer, Degrees, Refused as NotFound}
 
 -- ---- pairs
 
@@ -48,6 +43,12 @@ abbrev pub geodetic_pair : ℤ → ℤ → GeodeticPair
 geodetic_pair φ lon = degrees (float_of degree φ) (float_of degree lon)
 
 -- ---- answers
+
+-- an answer as a list holds it: its mark and its two values
+pub record Row : Type 0 where
+  pub mark : ℕ
+  pub first : Float
+  pub second : Float
 
 -- +0.0
 abbrev pub zero_float : Float

@@ -1,132 +1,72 @@
-// Pairs of f64, the answers that carry them, and their tests and conversions.
+// Pairs of f64, and their tests and conversions.
 #![tactic(auto)]
 
 ghost use Rattle.std.specs.Prelude.{◌≡◌};
-ghost use Rattle.pairs.specs.Pairs.{are_finite, within_globe, within_plane, in_metres, in_degrees, plane_row, geodetic_row};
+ghost use Rattle.azimuthal_forward.specs.Answer.{plane_answer};
+ghost use Rattle.azimuthal_inverse.specs.Answer.{geodetic_answer};
+ghost use Rattle.pairs.specs.Pairs.{are_finite, within_globe, within_plane, in_metres, in_degrees};
+ghost use Rattle.pairs.specs.PlanePairAnswer.{plane_pair_answer};
+ghost use Rattle.pairs.specs.GeodeticPairAnswer.{geodetic_pair_answer};
 
-use azimuthal_forward::PlaneAnswer;
-use azimuthal_inverse::GeodeticAnswer;
-use floats::{cm_to_metres, is_finite, is_latitude, is_longitude, is_plane, mas_to_degrees};
-use units::both;
+use azimuthal_forward::{GeodeticPosition, PlanePosition};
+use floats::{Coordinate, Latitude, Longitude, Plane, is_finite};
+use units::refusals::Refusal;
 
 // In degrees.
-#[derive(Clone, Copy)]
+#[derive(Clone, Copy, Debug, PartialEq)]
 pub struct GeodeticPair {
     pub latitude: f64,
     pub longitude: f64,
 }
 
 // In metres, by place: easting stands first today.
-#[derive(Clone, Copy)]
+#[derive(Clone, Copy, Debug, PartialEq)]
 pub struct PlanePair {
     pub first: f64,
     pub second: f64,
 }
 
-// A pair, or the refusal number alone.
-#[derive(Clone, Copy)]
-pub enum PlanePairAnswer {
-    Metres(PlanePair),
-    Refused(u8),
-}
-
-// A pair, or the refusal number alone.
-#[derive(Clone, Copy)]
-pub enum GeodeticPairAnswer {
-    Degrees(GeodeticPair),
-    Refused(u8),
-}
-
-// An answer as a list holds it: its two values and mark 0, or 0.0, 0.0 and its refusal number.
-#[derive(Clone, Copy)]
-pub struct Row {
-    pub mark: u8,
-    pub first: f64,
-    pub second: f64,
-}
-
 // Neither is NaN or infinite.
+#[tactic(auto, unfolding(crate::specs::Pairs::are_finite))]
 pub fn are_finite(x: f64, y: f64) -> bool
     ensures { result ≡ are_finite x y }
 {
-    both(is_finite(x), is_finite(y))
+    is_finite(x) && is_finite(y)
 }
 
 // Latitude within ±90° and longitude within ±180°.
+#[tactic(auto, unfolding(crate::specs::Pairs::within_globe))]
 pub fn is_within_globe(at: GeodeticPair) -> bool
     ensures { result ≡ within_globe at }
 {
-    both(is_latitude(at.latitude), is_longitude(at.longitude))
+    Latitude::is_within(at.latitude) && Longitude::is_within(at.longitude)
 }
 
 // Both within ±50,000,000 m.
+#[tactic(auto, unfolding(crate::specs::Pairs::within_plane))]
 pub fn is_within_plane(at: PlanePair) -> bool
     ensures { result ≡ within_plane at }
 {
-    both(is_plane(at.first), is_plane(at.second))
+    Plane::is_within(at.first) && Plane::is_within(at.second)
 }
 
-// The whole-unit answer in metres.
-pub fn in_metres(answer: PlaneAnswer) -> PlanePairAnswer
-    ensures { result ≡ in_metres answer }
+// The whole-unit answer in metres. A pair or its refusal is a `Result`: an enum of two cases, whose
+// refusal has a number (units::refusals).
+pub fn in_metres(answer: Result<PlanePosition, Refusal>) -> Result<PlanePair, Refusal>
+    ensures { plane_pair_answer result ≡ in_metres (plane_answer answer) }
 {
-    match answer {
-        PlaneAnswer::Plane { easting, northing } => PlanePairAnswer::Metres(PlanePair {
-            first: cm_to_metres(easting),
-            second: cm_to_metres(northing),
-        }),
-        PlaneAnswer::Refused(number) => PlanePairAnswer::Refused(number),
-    }
+    answer.map(|at| PlanePair {
+        first: Plane::to_float(at.easting),
+        second: Plane::to_float(at.northing),
+    })
 }
 
 // The whole-unit answer in degrees.
-pub fn in_degrees(answer: GeodeticAnswer) -> GeodeticPairAnswer
-    ensures { result ≡ in_degrees answer }
+pub fn in_degrees(answer: Result<GeodeticPosition, Refusal>) -> Result<GeodeticPair, Refusal>
+    ensures { geodetic_pair_answer result ≡ in_degrees (geodetic_answer answer) }
 {
-    match answer {
-        GeodeticAnswer::Position {
-            latitude,
-            longitude,
-        } => GeodeticPairAnswer::Degrees(GeodeticPair {
-            latitude: mas_to_degrees(latitude.0),
-            longitude: mas_to_degrees(longitude),
-        }),
-        GeodeticAnswer::Refused(number) => GeodeticPairAnswer::Refused(number),
-    }
-}
-
-// An answer as a list holds it.
-pub fn plane_row(answer: PlanePairAnswer) -> Row
-    ensures { result ≡ plane_row answer }
-{
-    match answer {
-        PlanePairAnswer::Metres(pair) => Row {
-            mark: 0,
-            first: pair.first,
-            second: pair.second,
-        },
-        PlanePairAnswer::Refused(number) => Row {
-            mark: number,
-            first: 0.0,
-            second: 0.0,
-        },
-    }
-}
-
-// An answer as a list holds it.
-pub fn geodetic_row(answer: GeodeticPairAnswer) -> Row
-    ensures { result ≡ geodetic_row answer }
-{
-    match answer {
-        GeodeticPairAnswer::Degrees(pair) => Row {
-            mark: 0,
-            first: pair.latitude,
-            second: pair.longitude,
-        },
-        GeodeticPairAnswer::Refused(number) => Row {
-            mark: number,
-            first: 0.0,
-            second: 0.0,
-        },
-    }
+    answer.map(|at| GeodeticPair {
+        latitude: Latitude::to_float(at.latitude.0),
+        longitude: Longitude::to_float(at.longitude),
+    })
 }

@@ -1,13 +1,22 @@
 -- Document 01, "Refusal numbers": calls for lists of pairs, forward and back.
-use Rattle.std.specs.Prelude.{ℕ, ◌≡◌, ◌&&◌, List, eqb, leb, Float, length}
-use Rattle.units.specs.Refusals.{unequal_lists, long_lists, unless, first_refusal}
+use Rattle.std.specs.Prelude.{ℕ, ◌≡◌, ◌&&◌, List, eqb, leb, Float, length, Result, Ok, Err}
+use Rattle.units.specs.Refusals.{unequal_lists, long_lists, unless, first_refusal, number}
+use Rattle.units.specs.declared.refusals.Refusal.{Refusal}
 use Rattle.units.specs.Answers.{answered, written, Counted, counted}
 use Rattle.parameters.specs.declared.Parameters.{Parameters}
 use Rattle.parameters.specs.ParameterSet.{set_refusal}
-use Rattle.pairs.specs.declared.Row.{Row}
-use Rattle.point_lists.specs.declared.ListAnswer.{ListAnswer}
-use Rattle.point_lists.specs.declared.ListAnswer.TheVariants.{Count, Refused}
+use Rattle.pairs.specs.Pairs.{Row}
 use Rattle.row_lists.specs.Rows.{rows, first_values, second_values, marks, zeros}
+
+-- the count of the marks that are 0, or the refusal number alone
+pub data ListAnswer : Type 0 where
+  Count : ℕ → ListAnswer
+  Refused : ℕ → ListAnswer
+
+-- what the code's answer says
+abbrev pub list_answered : Result ℕ Refusal → ListAnswer
+list_answered (Ok count) = Count count
+list_answered (Err refusal) = Refused (number refusal)
 
 -- "lists longer than 4,096"
 abbrev pub longest : ℕ

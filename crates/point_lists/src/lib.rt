@@ -3,75 +3,54 @@
 #![tactic(auto)]
 
 ghost use Rattle.std.specs.Prelude.{◌≡◌};
+ghost use Rattle.units.specs.Refusals.{refusal_number};
+ghost use Rattle.points.specs.InnerStages.{row_by};
 ghost use Rattle.row_lists.specs.Rows.{forward_at, inverse_at};
-ghost use Rattle.row_lists.specs.InnerRows.{row_of};
-ghost use Rattle.point_lists.specs.Lists.{length_refusal, ListCall};
+ghost use Rattle.point_lists.specs.Lists.{length_refusal, list_answered, ListCall};
 
-use constants::constants_of;
+use constants::projection::Projection;
 use parameters::Parameters;
+use points::{Direction, Forward, Inverse};
 use row_lists::{count_zeros, fill};
-use units::both;
-use units::refusals::{LONG_LISTS, UNEQUAL_LISTS, unless};
+use sine_table::SineTable;
+use units::refusals::Refusal;
 
 // Lists have at most this many points.
 const LONGEST: usize = 4_096;
 
-// The count of the marks that are 0, or the refusal number alone.
-#[derive(Clone, Copy)]
-pub enum ListAnswer {
-    Count(u64),
-    Refused(u8),
-}
-
-// The refusal by the lists' lengths; 0 is none.
-fn length_refusal(a: usize, b: usize, c: usize, d: usize, e: usize) -> u8
-    ensures { result ≡ length_refusal a b c d e }
+// Refused where the lists' lengths are unequal, or too great.
+#[tactic(auto, unfolding(crate::specs::Lists::length_refusal))]
+fn check_lengths(a: usize, b: usize, c: usize, d: usize, e: usize) -> Result<(), Refusal>
+    ensures { refusal_number result ≡ length_refusal a b c d e }
 {
-    let equal = both(b == a, both(c == a, both(d == a, e == a)));
-    unless(equal, UNEQUAL_LISTS, unless(a <= LONGEST, LONG_LISTS, 0))
+    Refusal::UnequalLists.unless(b == a && c == a && d == a && e == a)?;
+    Refusal::LongLists.unless(a <= LONGEST)
 }
 
-// Any set and lists of any length, from degrees to metres or back. The table and the set's
-// constants are made once.
-fn list(
+// Any set and lists of any length, in a direction: the count of the marks that are 0, or the refusal.
+// The table and the set's constants are made once.
+fn list<D: Direction>(
     p: Parameters,
-    forward: bool,
     xs: &[f64],
     ys: &[f64],
     leading: &mut [f64],
     trailing: &mut [f64],
     marks: &mut [u8],
-) -> ListAnswer
-    ensures { ListCall p (row_of forward p) xs.now ys.now
-        leading.old leading.new trailing.old trailing.new marks.old marks.new result }
+) -> Result<u64, Refusal>
+    ensures { ListCall p (row_by D.stages p) xs.now ys.now
+        leading.old leading.new trailing.old trailing.new marks.old marks.new (list_answered result) }
 {
-    let by_lengths = length_refusal(
+    check_lengths(
         xs.len(),
         ys.len(),
         leading.len(),
         trailing.len(),
         marks.len(),
-    );
-    if by_lengths != 0 {
-        return ListAnswer::Refused(by_lengths);
-    }
-    let by_set = p.refusal();
-    if by_set != 0 {
-        return ListAnswer::Refused(by_set);
-    }
-    let t = sine_table::table();
-    fill(
-        &t,
-        p,
-        constants_of(&t, p),
-        forward,
-        xs,
-        ys,
-        leading,
-        trailing,
-        marks,
-    );
-    ListAnswer::Count(count_zeros(marks))
+    )?;
+    let t = SineTable::new();
+    let projection = Projection::new(&t, p)?;
+    fill::<D>(&projection, xs, ys, leading, trailing, marks);
+    Ok(count_zeros(marks))
 }
 
 // Any set and lists of any length: the customer's call from degrees to metres.
@@ -82,11 +61,11 @@ pub fn forward_list(
     leading: &mut [f64],
     trailing: &mut [f64],
     marks: &mut [u8],
-) -> ListAnswer
+) -> Result<u64, Refusal>
     ensures { ListCall p (forward_at p) latitudes.now longitudes.now
-        leading.old leading.new trailing.old trailing.new marks.old marks.new result }
+        leading.old leading.new trailing.old trailing.new marks.old marks.new (list_answered result) }
 {
-    list(p, true, latitudes, longitudes, leading, trailing, marks)
+    list::<Forward>(p, latitudes, longitudes, leading, trailing, marks)
 }
 
 // Any set and lists of any length: the customer's call from metres to degrees.
@@ -97,9 +76,9 @@ pub fn inverse_list(
     latitudes: &mut [f64],
     longitudes: &mut [f64],
     marks: &mut [u8],
-) -> ListAnswer
+) -> Result<u64, Refusal>
     ensures { ListCall p (inverse_at p) leading.now trailing.now
-        latitudes.old latitudes.new longitudes.old longitudes.new marks.old marks.new result }
+        latitudes.old latitudes.new longitudes.old longitudes.new marks.old marks.new (list_answered result) }
 {
-    list(p, false, leading, trailing, latitudes, longitudes, marks)
+    list::<Inverse>(p, leading, trailing, latitudes, longitudes, marks)
 }

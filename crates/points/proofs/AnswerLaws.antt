@@ -12,20 +12,17 @@ use Rattle.units.specs.Answers.{answered}
 use Rattle.units.proofs.Spans.{size_inside}
 use Rattle.units.proofs.AnswerLaws.{answer_tells, set_refused}
 use Rattle.floats.specs.Limits.{within_limit, latitude_limit, longitude_limit, plane_limit_float}
-use Rattle.floats.proofs.Coordinates.{latitude, longitude, plane, whole_within}
+use Rattle.floats.specs.Kinds.{latitude, longitude, plane}
+use Rattle.floats.proofs.Coordinates.{whole_within}
 use Rattle.latitudes.specs.declared.Geodetic.{Geodetic}
 use Rattle.parameters.specs.declared.Parameters.{Parameters}
 use Rattle.parameters.specs.ParameterSet.{set_refusal}
-use Rattle.azimuthal_forward.specs.declared.PlaneAnswer.TheVariants.{Plane, Refused as PlaneRefused}
-use Rattle.azimuthal_forward.specs.Answer.{on_globe, forward_far, forward_refusal, easting_of, northing_of, forward_of}
-use Rattle.azimuthal_inverse.specs.declared.GeodeticAnswer.TheVariants.{Position, Refused as GeodeticRefused}
-use Rattle.azimuthal_inverse.specs.Answer.{inverse_far, inverse_refusal, inverse_latitude, inverse_longitude, inverse_of}
+use Rattle.azimuthal_forward.specs.Answer.{Plane, Refused as PlaneRefused, on_globe, forward_far, forward_refusal, easting_of, northing_of, forward_of}
+use Rattle.azimuthal_inverse.specs.Answer.{Position, Refused as GeodeticRefused, inverse_far, inverse_refusal, inverse_latitude, inverse_longitude, inverse_of}
 use Rattle.pairs.specs.declared.GeodeticPair.{GeodeticPair}
 use Rattle.pairs.specs.declared.PlanePair.{PlanePair}
-use Rattle.pairs.specs.declared.PlanePairAnswer.{PlanePairAnswer}
-use Rattle.pairs.specs.declared.PlanePairAnswer.TheVariants.{Metres, Refused}
-use Rattle.pairs.specs.declared.GeodeticPairAnswer.{GeodeticPairAnswer}
-use Rattle.pairs.specs.declared.GeodeticPairAnswer.TheVariants.{Degrees, Refused as NotFound}
+use Rattle.pairs.specs.PlanePairAnswer.{PlanePairAnswer, Metres, Refused}
+use Rattle.pairs.specs.GeodeticPairAnswer.{GeodeticPairAnswer, Degrees, Refused as NotFound}
 use Rattle.pairs.specs.Pairs.{latitude_mas, longitude_mas, easting_cm, northing_cm, plane_row, geodetic_row, in_metres, in_degrees}
 use Rattle.pairs.specs.Pairs.{are_finite, within_globe, within_plane}
 use Rattle.points.specs.Points.{pair_refusal}

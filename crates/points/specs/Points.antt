@@ -8,12 +8,9 @@ use Rattle.azimuthal_forward.specs.Answer.{forward_far, easting_of, northing_of}
 use Rattle.azimuthal_inverse.specs.Answer.{inverse_far, inverse_latitude, inverse_longitude}
 use Rattle.pairs.specs.declared.GeodeticPair.{GeodeticPair}
 use Rattle.pairs.specs.declared.PlanePair.{PlanePair}
-use Rattle.pairs.specs.declared.PlanePairAnswer.{PlanePairAnswer}
-use Rattle.pairs.specs.declared.PlanePairAnswer.TheVariants.{Metres, Refused}
-use Rattle.pairs.specs.declared.GeodeticPairAnswer.{GeodeticPairAnswer}
-use Rattle.pairs.specs.declared.GeodeticPairAnswer.TheVariants.{Degrees, Refused as NotFound}
-use Rattle.pairs.specs.declared.Row.{Row}
-use Rattle.pairs.specs.Pairs.{latitude_mas, longitude_mas, easting_cm, northing_cm, plane_pair, geodetic_pair, accepted_row, refused_row}
+use Rattle.pairs.specs.PlanePairAnswer.{PlanePairAnswer, Metres, Refused}
+use Rattle.pairs.specs.GeodeticPairAnswer.{GeodeticPairAnswer, Degrees, Refused as NotFound}
+use Rattle.pairs.specs.Pairs.{Row, latitude_mas, longitude_mas, easting_cm, northing_cm, plane_pair, geodetic_pair, accepted_row, refused_row}
 use Rattle.pairs.specs.Pairs.{are_finite, within_globe, within_plane}
 
 -- ---- The set's number, 2, 3, 4, in this order, each exactly under its condition; 4 is that of the whole-unit steps for the rounded position.

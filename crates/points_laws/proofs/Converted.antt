@@ -9,20 +9,20 @@ use Rattle.proof_kit.proofs.Order.{<ℤ-≤ℤ, abs_between}
 use Rattle.units.specs.Refusals.{unless, first_refusal}
 use Rattle.units.proofs.Spans.{plane_sizes}
 use Rattle.units.proofs.Chains.{link_passed}
-use Rattle.floats.proofs.Coordinates.{latitude, longitude, plane}
+use Rattle.floats.specs.Kinds.{latitude, longitude, plane}
 use Rattle.latitudes.specs.declared.Geodetic.{Geodetic}
 use Rattle.parameters.specs.declared.Parameters.{Parameters}
 use Rattle.parameters.specs.ParameterSet.{set_refusal}
-use Rattle.azimuthal_forward.specs.declared.PlaneAnswer.TheVariants.{Plane}
+use Rattle.azimuthal_forward.specs.Answer.{Plane}
 use Rattle.azimuthal_forward.specs.Answer.{forward_far, forward_refusal, easting_of, northing_of, forward_of}
-use Rattle.azimuthal_inverse.specs.declared.GeodeticAnswer.TheVariants.{Position}
+use Rattle.azimuthal_inverse.specs.Answer.{Position}
 use Rattle.azimuthal_inverse.specs.Answer.{inverse_far, inverse_refusal, inverse_latitude, inverse_longitude, inverse_of}
 use Rattle.projection_laws.proofs.Ranges.{position_in_range}
 use Rattle.round_trip.proofs.Limits.{forward_on_plane}
 use Rattle.pairs.specs.declared.GeodeticPair.{GeodeticPair}
 use Rattle.pairs.specs.declared.PlanePair.{PlanePair}
-use Rattle.pairs.specs.declared.PlanePairAnswer.TheVariants.{Metres}
-use Rattle.pairs.specs.declared.GeodeticPairAnswer.TheVariants.{Degrees}
+use Rattle.pairs.specs.PlanePairAnswer.{Metres}
+use Rattle.pairs.specs.GeodeticPairAnswer.{Degrees}
 use Rattle.pairs.specs.Pairs.{latitude_mas, longitude_mas, easting_cm, northing_cm, are_finite, within_globe, within_plane, plane_row, geodetic_row}
 use Rattle.points.specs.Points.{pair_refusal}
 use Rattle.points.specs.Points.{forward_pair_refusal, forward_pair, forward_degrees, forward_row, inverse_pair_refusal, inverse_pair, inverse_metres, inverse_row}

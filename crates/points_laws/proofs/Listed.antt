@@ -3,16 +3,16 @@
 -- all points with an accepted set holds at each index of a call that is not refused. Assumes nothing.
 use mathlib.Core.Path.{◌≡◌, sym, ap, ◌∙◌, subst}
 use mathlib.Core.List.{List}
-use Prim.Native.Nat.{ℕ, zero, suc, ◌<◌}
+use Prim.Native.Nat.{ℕ, suc, ◌<◌}
 use lib.Ieee.{Float, nan}
 use lib.ListN.{length, get_or}
 use Rattle.units.specs.Answers.{written}
 use Rattle.parameters.specs.declared.Parameters.{Parameters}
 use Rattle.parameters.specs.ParameterSet.{set_refusal}
-use Rattle.pairs.specs.declared.Row.{Row}
+use Rattle.pairs.specs.Pairs.{Row}
 use Rattle.pairs.specs.Pairs.{degrees, metres}
 use Rattle.points.proofs.AnswerLaws.{forward_tells, inverse_tells}
-use Rattle.point_lists.specs.declared.ListAnswer.{ListAnswer}
+use Rattle.point_lists.specs.Lists.{ListAnswer}
 use Rattle.row_lists.specs.Rows.{forward_at, inverse_at, rows, first_values, second_values, marks}
 use Rattle.row_lists.specs.InnerRows.{row_at}
 use Rattle.point_lists.specs.Lists.{length_refusal, list_refusal}

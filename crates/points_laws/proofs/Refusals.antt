@@ -25,13 +25,13 @@ use Rattle.sphere_points.specs.Sphere.{G}
 use Rattle.azimuthal_inverse.specs.Answer.{far_from, inverse_far}
 use Rattle.pairs.specs.declared.GeodeticPair.{GeodeticPair}
 use Rattle.pairs.specs.declared.PlanePair.{PlanePair}
-use Rattle.pairs.specs.declared.PlanePairAnswer.TheVariants.{Metres, Refused as PlaneRefused}
-use Rattle.pairs.specs.declared.GeodeticPairAnswer.TheVariants.{Degrees, Refused as NotFound}
+use Rattle.pairs.specs.PlanePairAnswer.{Metres, Refused as PlaneRefused}
+use Rattle.pairs.specs.GeodeticPairAnswer.{Degrees, Refused as NotFound}
 use Rattle.pairs.specs.Pairs.{degrees, metres, latitude_mas, longitude_mas, easting_cm, northing_cm}
 use Rattle.points.specs.Points.{pair_refusal}
 use Rattle.points.specs.Points.{forward_pair_refusal, forward_pair, forward_degrees, forward_row, inverse_pair_refusal, inverse_pair, inverse_metres, inverse_row}
 use Rattle.points.proofs.AnswerLaws.{forward_tells, inverse_tells}
-use Rattle.point_lists.specs.declared.ListAnswer.TheVariants.{Refused}
+use Rattle.point_lists.specs.Lists.{Refused}
 use Rattle.row_lists.specs.Rows.{zeros}
 use Rattle.row_lists.specs.InnerRows.{row_of}
 use Rattle.point_lists.specs.Lists.{length_refusal, list_refusal, list_answer}

@@ -11,9 +11,9 @@ use Rattle.round_trip.specs.Theorems.{RoundTripAt}
 use Rattle.round_trip.proofs.Demand3.{demand_3}
 use Rattle.pairs.specs.declared.GeodeticPair.{GeodeticPair}
 use Rattle.pairs.specs.declared.PlanePair.{PlanePair}
-use Rattle.pairs.specs.declared.Row.{Row}
-use Rattle.pairs.specs.declared.PlanePairAnswer.TheVariants.{Metres}
-use Rattle.pairs.specs.declared.GeodeticPairAnswer.TheVariants.{Degrees}
+use Rattle.pairs.specs.Pairs.{Row}
+use Rattle.pairs.specs.PlanePairAnswer.{Metres}
+use Rattle.pairs.specs.GeodeticPairAnswer.{Degrees}
 use Rattle.pairs.specs.Pairs.{degrees, metres, latitude_mas, longitude_mas, easting_cm, northing_cm, geodetic_pair, within_plane}
 use Rattle.pairs.specs.Pairs.{plane_row, geodetic_row, in_degrees}
 use Rattle.points.specs.Points.{forward_degrees, inverse_metres}

@@ -4,7 +4,7 @@ use mathlib.Core.Path.{◌≡◌, refl, ap}
 use Prim.Native.Nat.{ℕ, zero, suc}
 use native.Mathlib.Omega.{arith}
 use lib.Ieee.{Float}
-use Rattle.pairs.specs.declared.Row.{Row}
+use Rattle.pairs.specs.Pairs.{Row}
 use Rattle.units.specs.Answers.{answered}
 use Rattle.pairs.specs.Pairs.{accepted_row, refused_row}
 

@@ -10,11 +10,11 @@ use Rattle.floats.specs.Limits.{is_finite, beyond, within_limit}
 use Rattle.parameters.specs.ParameterSet.{etrs_laea}
 use Rattle.parameters.specs.FieldTheorems.{number_of, wrong}
 use Rattle.parameters.proofs.Fields.{not_none, etrs_accepted, wrong_refused}
-use Rattle.azimuthal_forward.specs.declared.PlaneAnswer.{PlaneAnswer}
-use Rattle.azimuthal_forward.specs.declared.PlaneAnswer.TheVariants.{Plane, Refused}
+use Rattle.azimuthal_forward.specs.Answer.{PlaneAnswer}
+use Rattle.azimuthal_forward.specs.Answer.{Plane, Refused}
 use Rattle.azimuthal_forward.specs.Answer.{forward_of, plane_told}
-use Rattle.azimuthal_inverse.specs.declared.GeodeticAnswer.{GeodeticAnswer}
-use Rattle.azimuthal_inverse.specs.declared.GeodeticAnswer.TheVariants.{Position, Refused as NotFound}
+use Rattle.azimuthal_inverse.specs.Answer.{GeodeticAnswer}
+use Rattle.azimuthal_inverse.specs.Answer.{Position, Refused as NotFound}
 use Rattle.azimuthal_inverse.specs.Answer.{inverse_of, geodetic_told}
 use Rattle.latitudes.specs.Latitude.{latitude}
 use Rattle.projection_laws.proofs.Witnesses.{forward_witnesses as whole-forward, inverse_witnesses as whole-inverse}

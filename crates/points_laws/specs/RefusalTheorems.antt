@@ -13,14 +13,14 @@ use Rattle.azimuthal_inverse.specs.Steps.{at_origin, on_map, K}
 use Rattle.sphere_points.specs.Sphere.{G}
 use Rattle.pairs.specs.declared.GeodeticPair.{GeodeticPair}
 use Rattle.pairs.specs.declared.PlanePair.{PlanePair}
-use Rattle.pairs.specs.declared.Row.{Row}
-use Rattle.pairs.specs.declared.PlanePairAnswer.TheVariants.{Metres, Refused as PlaneRefused}
-use Rattle.pairs.specs.declared.GeodeticPairAnswer.TheVariants.{Degrees, Refused as NotFound}
+use Rattle.pairs.specs.Pairs.{Row}
+use Rattle.pairs.specs.PlanePairAnswer.{Metres, Refused as PlaneRefused}
+use Rattle.pairs.specs.GeodeticPairAnswer.{Degrees, Refused as NotFound}
 use Rattle.pairs.specs.Pairs.{degrees, metres, easting_cm, northing_cm, latitude_mas, longitude_mas, are_finite, within_globe, within_plane}
 use Rattle.pairs.specs.Pairs.{accepted_row, plane_row, geodetic_row}
 use Rattle.points.specs.Points.{forward_pair_refusal, forward_degrees, inverse_pair_refusal, inverse_metres}
-use Rattle.point_lists.specs.declared.ListAnswer.{ListAnswer}
-use Rattle.point_lists.specs.declared.ListAnswer.TheVariants.{Refused}
+use Rattle.point_lists.specs.Lists.{ListAnswer}
+use Rattle.point_lists.specs.Lists.{Refused}
 use Rattle.row_lists.specs.InnerRows.{row_of}
 use Rattle.point_lists.specs.Lists.{list_refusal, ListCall}
 use Rattle.points_laws.specs.Theorems.{AtEachIndex}

@@ -3,16 +3,16 @@
 use Rattle.std.specs.Prelude.{ℕ, ◌≤◌, ◌<◌, ◌≡◌, List, pos, nat_abs, ◌≤ℤ◌, Float, length, get_or}
 use Rattle.std.specs.Float.{nan}
 use Rattle.parameters.specs.declared.Parameters.{Parameters}
-use Rattle.azimuthal_inverse.specs.declared.GeodeticAnswer.TheVariants.{Position}
+use Rattle.azimuthal_inverse.specs.Answer.{Position}
 use Rattle.azimuthal_forward.specs.Answer.{nearness}
 use Rattle.round_trip.specs.RoundTrip.{farthest_latitude, least_nearness, latitude_bound, gap_bound, CloseTo}
 use Rattle.pairs.specs.declared.GeodeticPair.{GeodeticPair}
 use Rattle.pairs.specs.declared.PlanePair.{PlanePair}
-use Rattle.pairs.specs.declared.Row.{Row}
-use Rattle.pairs.specs.declared.GeodeticPairAnswer.{GeodeticPairAnswer}
-use Rattle.pairs.specs.declared.PlanePairAnswer.TheVariants.{Metres}
-use Rattle.pairs.specs.declared.GeodeticPairAnswer.TheVariants.{Degrees}
-use Rattle.point_lists.specs.declared.ListAnswer.{ListAnswer}
+use Rattle.pairs.specs.Pairs.{Row}
+use Rattle.pairs.specs.GeodeticPairAnswer.{GeodeticPairAnswer}
+use Rattle.pairs.specs.PlanePairAnswer.{Metres}
+use Rattle.pairs.specs.GeodeticPairAnswer.{Degrees}
+use Rattle.point_lists.specs.Lists.{ListAnswer}
 use Rattle.pairs.specs.Pairs.{degrees, metres, latitude_mas, longitude_mas, plane_pair, geodetic_pair}
 use Rattle.pairs.specs.Pairs.{plane_row, geodetic_row}
 use Rattle.points.specs.Points.{forward_degrees, inverse_metres}

@@ -7,19 +7,19 @@ use Rattle.units.specs.Refusals.{not_finite, out_of_limits, too_far, unequal_lis
 use Rattle.floats.specs.Limits.{is_finite}
 use Rattle.latitudes.specs.Latitude.{latitude}
 use Rattle.parameters.specs.declared.Parameters.{Parameters}
-use Rattle.azimuthal_forward.specs.declared.PlaneAnswer.TheVariants.{Plane}
-use Rattle.azimuthal_inverse.specs.declared.GeodeticAnswer.TheVariants.{Position}
+use Rattle.azimuthal_forward.specs.Answer.{Plane}
+use Rattle.azimuthal_inverse.specs.Answer.{Position}
 use Rattle.parameters.specs.ParameterSet.{set_refusal, etrs_laea}
 use Rattle.parameters.specs.FieldTheorems.{Field, number_of, wrong, all_wrong}
 use Rattle.azimuthal_forward.specs.Answer.{forward_of}
 use Rattle.azimuthal_inverse.specs.Answer.{inverse_of}
 use Rattle.pairs.specs.declared.GeodeticPair.{GeodeticPair}
 use Rattle.pairs.specs.declared.PlanePair.{PlanePair}
-use Rattle.pairs.specs.declared.Row.{Row}
-use Rattle.pairs.specs.declared.PlanePairAnswer.TheVariants.{Metres, Refused as PlaneRefused}
-use Rattle.pairs.specs.declared.GeodeticPairAnswer.TheVariants.{Degrees, Refused as NotFound}
-use Rattle.point_lists.specs.declared.ListAnswer.{ListAnswer}
-use Rattle.point_lists.specs.declared.ListAnswer.TheVariants.{Count, Refused}
+use Rattle.pairs.specs.Pairs.{Row}
+use Rattle.pairs.specs.PlanePairAnswer.{Metres, Refused as PlaneRefused}
+use Rattle.pairs.specs.GeodeticPairAnswer.{Degrees, Refused as NotFound}
+use Rattle.point_lists.specs.Lists.{ListAnswer}
+use Rattle.point_lists.specs.Lists.{Count, Refused}
 use Rattle.pairs.specs.Pairs.{degrees, metres, latitude_mas, longitude_mas, easting_cm, northing_cm, plane_pair, geodetic_pair, zero_float}
 use Rattle.pairs.specs.Pairs.{plane_row, geodetic_row, in_metres, in_degrees}
 use Rattle.points.specs.Points.{forward_degrees, inverse_metres}

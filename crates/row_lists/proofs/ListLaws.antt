@@ -1,4 +1,4 @@
--- Lists that a loop writes from the front, the points of two lists at an index, and the count of zeros. Assumes nothing.
+-- Lists that a loop writes from the front, the points of two lists at an index, two in a turn. Assumes nothing.
 use mathlib.Core.Path.{◌≡◌, refl, sym, ap, ◌∙◌}
 use mathlib.Core.List.{List, [], ◌∷◌, ◌++◌, map}
 use Prim.Native.Nat.{ℕ, zero, suc, ◌+◌, ◌<◌, ◌≤◌}
@@ -7,20 +7,16 @@ use native.Mathlib.Numerals.{add-one}
 use native.Mathlib.Omega.{arith}
 use lib.Ieee.{Float, nan}
 use lib.ListN.{length, get_or, set, take, drop}
-use Rattle.pairs.specs.declared.Row.{Row}
-use Rattle.row_lists.specs.Rows.{rows, first_values, second_values, marks as marks_of, zeros}
+use Rattle.std.specs.Prelude.{Result}
+use Rattle.parameters.specs.declared.Parameters.{Parameters}
+use Rattle.pairs.specs.Pairs.{Row}
+use Rattle.points.specs.InnerStages.{Stages, answer_by, listed, row_by}
+use Rattle.row_lists.specs.Rows.{rows, first_values, second_values, marks as marks_of}
 
 -- after i stores, from the front, of the elements of `new` into a list
 module _ {A : Type 0} where
   abbrev pub filled : ℕ → List A → List A → List A
   filled i new old = take i new ++ drop i old
-
-  pub filled_length : (i : ℕ) (new old : List A) → length new ≡ length old → length (filled i new old) ≡ length old
-  filled_length zero new old e = refl
-  filled_length (suc i) [] [] e = refl
-  filled_length (suc i) [] (y ∷ old) e = let z : ⊥ = omega (arith, e) in absurd z
-  filled_length (suc i) (x ∷ new) [] e = let z : ⊥ = omega (arith, e) in absurd z
-  filled_length (suc i) (x ∷ new) (y ∷ old) e = let f : length new ≡ length old = omega (arith, e) in ap suc (filled_length i new old f)
 
   filled_suc : (i : ℕ) (new old : List A) (d : A) → length new ≡ length old → i < length old → set (filled i new old) i (get_or new i d) ≡ filled (suc i) new old
   filled_suc i [] [] d e l = absurd (not-suc-le-zero l)
@@ -74,12 +70,6 @@ module _ {A : Type 0} {column : Row → A} {row : Float → Float → Row} {xs y
   same_room : length (map column (rows row xs ys)) ≡ length old
   same_room = column_length column row xs ys f.equal ∙ sym f.room
 
-  pub kept_length : length now ≡ length old
-  kept_length = ap length f.so_far ∙ filled_length i (map column (rows row xs ys)) old same_room
-
-  pub room_left : i < length xs → i < length now
-  room_left l = omega (arith, kept_length, f.room)
-
   -- the store of one more
   pub stored : (d : A) (r : Row) (after : List A) → i < length xs → r ≡ row (get_or xs i nan) (get_or ys i nan) → after ≡ set now i (column r) →
       Filling column row xs ys old after (i + 1)
@@ -108,12 +98,16 @@ pub record Stored (row : Float → Float → Row) (xs ys leading₀ trailing₀ 
   pub to_trailing : Filling (λ (r : Row). r.second) row xs ys trailing₀ trailing i
   pub to_marks : Filling (λ (r : Row). r.mark) row xs ys marks₀ marks i
 
+-- a row by its stages is the row of the point
+pub row_told : {Given Whole Found : Type 0} (stages : Stages Given Whole Found) (p : Parameters) (x y : Float) (at : Given) (found : Result Found ℕ) →
+    at ≡ stages.given x y →
+    found ≡ answer_by stages p at →
+    listed stages found ≡ row_by stages p x y
+row_told stages p x y at found e is = rw (is, e)
+
 module _ {row : Float → Float → Row} {xs ys leading₀ trailing₀ : List Float} {marks₀ : List ℕ} {leading trailing : List Float} {marks : List ℕ} {i : ℕ}
     (s : Stored row xs ys leading₀ trailing₀ marks₀ leading trailing marks i) where
-  pub rooms : i < length xs → (i < length leading) × (i < length trailing) × (i < length marks)
-  rooms l = (room_left s.to_leading l, room_left s.to_trailing l, room_left s.to_marks l)
-
-  pub one_more :
+  one_more :
       (r : Row) {leading' trailing' : List Float} {marks' : List ℕ} →
       i < length xs →
       r ≡ row (get_or xs i nan) (get_or ys i nan) →
@@ -129,37 +123,21 @@ module _ {row : Float → Float → Row} {xs ys leading₀ trailing₀ : List Fl
         to_marks = stored s.to_marks 0 r marks' l e mark;
       }
 
+  -- the same at j, which is i
+  pub one_more_at :
+      (j k : ℕ) (r : Row) {leading' trailing' : List Float} {marks' : List ℕ} →
+      j ≡ i →
+      k ≡ i + 1 →
+      j < length xs →
+      r ≡ row (get_or xs j nan) (get_or ys j nan) →
+      leading' ≡ set leading j r.first →
+      trailing' ≡ set trailing j r.second →
+      marks' ≡ set marks j r.mark →
+      Stored row xs ys leading₀ trailing₀ marks₀ leading' trailing' marks' k
+  one_more_at j k r at next l e first second mark =
+      rw next (one_more r (rw at at l) (rw at at e) (rw at at first) (rw at at second) (rw at at mark))
+
   pub all_stored :
       i ≡ length xs →
       (leading ≡ first_values (rows row xs ys)) × ((trailing ≡ second_values (rows row xs ys)) × (marks ≡ marks_of (rows row xs ys)))
   all_stored e = (finished s.to_leading e, (finished s.to_trailing e, finished s.to_marks e))
-
--- ---- the count of zeros
-
-pub zeros_most : (ms : List ℕ) → zeros ms ≤ length ms
-zeros_most [] = omega arith
-zeros_most (zero ∷ ms) = omega (arith, zeros_most ms)
-zeros_most (suc m ∷ ms) = omega (arith, zeros_most ms)
-
-pub zeros_past : (ms : List ℕ) → zeros (drop (length ms) ms) ≡ 0
-zeros_past [] = refl
-zeros_past (m ∷ ms) = zeros_past ms
-
-zero_suc : (ms : List ℕ) (i : ℕ) → i < length ms → get_or ms i 0 ≡ 0 → zeros (drop i ms) ≡ suc (zeros (drop (suc i) ms))
-zero_suc [] i l e = absurd (not-suc-le-zero l)
-zero_suc (zero ∷ ms) zero l e = refl
-zero_suc (suc m ∷ ms) zero l e = let z : ⊥ = omega (arith, e) in absurd z
-zero_suc (m ∷ ms) (suc i) l e = zero_suc ms i (le_of_suc-le-suc l) e
-
-other_suc : (ms : List ℕ) (i : ℕ) → i < length ms → (get_or ms i 0 ≡ 0 → ⊥) → zeros (drop i ms) ≡ zeros (drop (suc i) ms)
-other_suc [] i l e = absurd (not-suc-le-zero l)
-other_suc (zero ∷ ms) zero l e = absurd (e refl)
-other_suc (suc m ∷ ms) zero l e = refl
-other_suc (m ∷ ms) (suc i) l e = other_suc ms i (le_of_suc-le-suc l) e
-
--- the element at i is counted exactly if it is 0
-pub zero_counted : (ms : List ℕ) (i : ℕ) → i < length ms → get_or ms i 0 ≡ 0 → zeros (drop i ms) ≡ zeros (drop (i + 1) ms) + 1
-zero_counted ms i l e = zero_suc ms i l e ∙ sym (add-one (zeros (drop (suc i) ms))) ∙ ap (λ (k : ℕ). zeros (drop k ms) + 1) (sym (add-one i))
-
-pub other_not_counted : (ms : List ℕ) (i : ℕ) → i < length ms → (get_or ms i 0 ≡ 0 → ⊥) → zeros (drop i ms) ≡ zeros (drop (i + 1) ms)
-other_not_counted ms i l e = other_suc ms i l e ∙ ap (λ (k : ℕ). zeros (drop k ms)) (sym (add-one i))

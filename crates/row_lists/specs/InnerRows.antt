@@ -2,7 +2,7 @@
 use Rattle.std.specs.Prelude.{ℕ, Bool, true, false, List, Float, get_or}
 use Rattle.std.specs.Float.{nan}
 use Rattle.parameters.specs.declared.Parameters.{Parameters}
-use Rattle.pairs.specs.declared.Row.{Row}
+use Rattle.pairs.specs.Pairs.{Row}
 use Rattle.row_lists.specs.Rows.{forward_at, inverse_at}
 
 -- forward or back

@@ -1,7 +1,7 @@
 -- Document 01, "Refusal numbers": the points of two lists, forward and back, as three lists hold them.
 use Rattle.std.specs.Prelude.{ℕ, zero, suc, List, [], ◌∷◌, map, Float}
 use Rattle.parameters.specs.declared.Parameters.{Parameters}
-use Rattle.pairs.specs.declared.Row.{Row}
+use Rattle.pairs.specs.Pairs.{Row}
 use Rattle.pairs.specs.Pairs.{degrees, metres}
 use Rattle.points.specs.Points.{forward_row, inverse_row}
 

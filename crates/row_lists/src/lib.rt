@@ -2,149 +2,78 @@
 #![tactic(auto)]
 
 ghost use Rattle.std.specs.Prelude.{◌≡◌, ◌<◌, length, set};
-ghost use Rattle.constants.specs.InnerPrepared.{Prepared};
+ghost use Rattle.points.specs.InnerStages.{numbered, listed, row_by};
 ghost use Rattle.row_lists.specs.Rows.{rows, first_values, second_values, marks as marks_of, zeros};
-ghost use Rattle.row_lists.specs.InnerRows.{row_of};
 
-use constants::Constants;
-use pairs::{GeodeticPair, PlanePair, Row, geodetic_row, plane_row};
-use parameters::Parameters;
-use points::{forward_pair, forward_pairs, inverse_pair, inverse_pairs};
-use sine_table::Table;
+use constants::projection::Projection;
+use points::{Direction, both_pairs, pair};
+use units::refusals::Refusal;
 
-// A point of a list, from degrees to metres or back.
-fn point(t: &Table, p: Parameters, k: Constants, forward: bool, x: f64, y: f64) -> Row
-    requires { Prepared t.now p k }
-    ensures { result ≡ row_of forward p x y }
-{
-    if forward {
-        let at = GeodeticPair {
-            latitude: x,
-            longitude: y,
-        };
-        return plane_row(forward_pair(t, p, k, at));
-    }
-    let at = PlanePair {
-        first: x,
-        second: y,
-    };
-    geodetic_row(inverse_pair(t, p, k, at))
-}
-
-// The rows of two points.
-#[derive(Drop)]
-struct Rows {
-    first: Row,
-    second: Row,
-}
-
-// Two points of a list at once, from degrees to metres or back.
-fn points(
-    t: &Table,
-    p: Parameters,
-    k: Constants,
-    forward: bool,
-    x: f64,
-    y: f64,
-    x2: f64,
-    y2: f64,
-) -> Rows
-    requires { Prepared t.now p k }
-    ensures { (result.first ≡ row_of forward p x y) × (result.second ≡ row_of forward p x2 y2) }
-{
-    if forward {
-        let at = GeodeticPair {
-            latitude: x,
-            longitude: y,
-        };
-        let at2 = GeodeticPair {
-            latitude: x2,
-            longitude: y2,
-        };
-        let answers = forward_pairs(t, p, k, at, at2);
-        let first = answers.first;
-        let second = answers.second;
-        return Rows {
-            first: plane_row(first),
-            second: plane_row(second),
-        };
-    }
-    let at = PlanePair {
-        first: x,
-        second: y,
-    };
-    let at2 = PlanePair {
-        first: x2,
-        second: y2,
-    };
-    let answers = inverse_pairs(t, p, k, at, at2);
-    let first = answers.first;
-    let second = answers.second;
-    Rows {
-        first: geodetic_row(first),
-        second: geodetic_row(second),
-    }
-}
-
-// Stores a row at index i of the three lists.
-fn put(row: Row, i: usize, leading: &mut [f64], trailing: &mut [f64], marks: &mut [u8])
+// Stores an answer at index i of the three lists: its two values and mark 0, or 0.0, 0.0 and its
+// refusal number. The calls from C lend the rows as three lists.
+fn put<D: Direction>(
+    answer: Result<D::Found, Refusal>,
+    i: usize,
+    leading: &mut [f64],
+    trailing: &mut [f64],
+    marks: &mut [u8],
+)
     requires { (i < length leading.old) × (i < length trailing.old) × (i < length marks.old) }
-    ensures leading_after { leading.new ≡ set leading.old i row.first }
-    ensures trailing_after { trailing.new ≡ set trailing.old i row.second }
-    ensures marks_after { marks.new ≡ set marks.old i row.mark }
+    ensures leading_after { leading.new ≡ set leading.old i (listed D.stages (numbered answer)).first }
+    ensures trailing_after { trailing.new ≡ set trailing.old i (listed D.stages (numbered answer)).second }
+    ensures marks_after { marks.new ≡ set marks.old i (listed D.stages (numbered answer)).mark }
 {
-    leading[i] = row.first;
-    trailing[i] = row.second;
-    marks[i] = row.mark;
+    match answer {
+        Ok(found) => {
+            let (first, second) = D::values(found);
+            leading[i] = first;
+            trailing[i] = second;
+            marks[i] = 0;
+        }
+        Err(refusal) => {
+            leading[i] = 0.0;
+            trailing[i] = 0.0;
+            marks[i] = refusal.number();
+        }
+    }
 }
 
 // Writes every point of lists of equal length, two in a turn.
-pub fn fill(
-    t: &Table,
-    p: Parameters,
-    k: Constants,
-    forward: bool,
+pub fn fill<D: Direction>(
+    projection: &Projection,
     xs: &[f64],
     ys: &[f64],
     leading: &mut [f64],
     trailing: &mut [f64],
     marks: &mut [u8],
 )
-    requires prepared { Prepared t.now p k }
-    requires ys_len { (length ys.now ≡ length xs.now) × (length leading.old ≡ length xs.now)
+    requires { (length ys.now ≡ length xs.now) × (length leading.old ≡ length xs.now)
         × (length trailing.old ≡ length xs.now) × (length marks.old ≡ length xs.now) }
-    ensures leading_after { leading.new ≡ first_values (rows (row_of forward p) xs.now ys.now) }
-    ensures trailing_after { trailing.new ≡ second_values (rows (row_of forward p) xs.now ys.now) }
-    ensures marks_after { marks.new ≡ marks_of (rows (row_of forward p) xs.now ys.now) }
+    ensures leading_after { leading.new ≡ first_values (rows (row_by D.stages projection.now.set) xs.now ys.now) }
+    ensures trailing_after { trailing.new ≡ second_values (rows (row_by D.stages projection.now.set) xs.now ys.now) }
+    ensures marks_after { marks.new ≡ marks_of (rows (row_by D.stages projection.now.set) xs.now ys.now) }
 {
-    let mut i = 0;
-    while i + 1 < xs.len() {
+    for turn in 0..xs.len() / 2 {
+        let i = 2 * turn;
         let j = i + 1;
-        let two = points(t, p, k, forward, xs[i], ys[i], xs[j], ys[j]);
-        let first = two.first;
-        let second = two.second;
-        put(first, i, leading, trailing, marks);
-        put(second, j, leading, trailing, marks);
-        i += 2;
+        let (first, second) = both_pairs::<D>(
+            projection,
+            D::given(xs[i], ys[i]),
+            D::given(xs[j], ys[j]),
+        );
+        put::<D>(first, i, leading, trailing, marks);
+        put::<D>(second, j, leading, trailing, marks);
     }
-    if i < xs.len() {
-        let row = point(t, p, k, forward, xs[i], ys[i]);
-        put(row, i, leading, trailing, marks);
+    if xs.len() % 2 == 1 {
+        let last = xs.len() - 1;
+        let answer = pair::<D>(projection, D::given(xs[last], ys[last]));
+        put::<D>(answer, last, leading, trailing, marks);
     }
 }
 
 // How many marks are 0.
-#[tactic(auto, using(crate::proofs::ListLaws::zero_counted, crate::proofs::ListLaws::other_not_counted, crate::proofs::ListLaws::zeros_most, crate::proofs::ListLaws::zeros_past))]
 pub fn count_zeros(marks: &[u8]) -> u64
     ensures { result ≡ zeros marks.now }
 {
-    let mut n: u64 = 0;
-    let mut i = 0;
-    while i < marks.len() {
-        if marks[i] == 0 {
-            n += 1;
-        }
-        i += 1;
-    }
-    n
+    marks.iter().filter(|mark| **mark == 0).count() as u64
 }

@@ -1,9 +1,9 @@
 -- Document 01, "The program": "A newline ends a line; the last may lack it." Input comes in pieces.
-use Rattle.std.specs.Prelude.{ℕ, ◌-◌, ◌≡◌, cond, List, [], ◌∷◌, ◌++◌, eqb, length, take, replicate}
+use Rattle.std.specs.Prelude.{ℕ, cond, List, [], ◌∷◌, ◌++◌, eqb, take}
 use Rattle.requests.specs.Requests.{most_kept}
 use Rattle.text.specs.Ascii.{newline}
 use Rattle.lines.specs.Lines.{answer_line}
-use Rattle.splitter.specs.declared.Carried.{Carried}
+use Rattle.arrayvec.specs.ArrayVec.{ArrayVec}
 
 -- Where `part` of a line has come already: the lines that a piece of input ends, and the part of a line that is left after it.
 abbrev pub ended_lines : List ℕ → List ℕ → List (List ℕ)
@@ -50,13 +50,13 @@ abbrev pub joined : List (List ℕ) → List ℕ
 joined [] = []
 joined (piece ∷ pieces) = piece ++ joined pieces
 
--- how a part is carried: its kept bytes, zeros after them in the array, and their number
-unfoldable pub carried_of : List ℕ → Carried
-carried_of part = record { bytes = kept part ++ replicate (most_kept - length (kept part)) 0; len = length (kept part) }
+-- What is carried of a part: its kept bytes. Its type in src/ has room for no more.
+abbrev pub Carried : Type 0
+Carried = ArrayVec ℕ
 
--- the part that is carried, and what every carried value is
+abbrev pub carried_of : List ℕ → Carried
+carried_of part = record { items = kept part }
+
+-- the part that is carried
 abbrev pub part_of : Carried → List ℕ
-part_of c = take c.len c.bytes
-
-abbrev pub IsCarried : Carried → Type 0
-IsCarried c = c ≡ carried_of (part_of c)
+part_of c = c.items

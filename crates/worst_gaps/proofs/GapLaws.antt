@@ -2,10 +2,11 @@
 -- and what is left of the turn is taken. Its product with the cosine is the longitude gap, as the cosine's size is all that its size needs.
 -- Assumes nothing.
 use mathlib.Core.Path.{◌≡◌, sym, ap, ◌∙◌}
-use Prim.Native.Nat.{◌-◌, ◌*◌, ◌<◌, ◌≤◌}
+use Prim.Native.Nat.{◌-◌, ◌*◌, ◌≤◌}
 use native.Mathlib.Omega.{arith}
 use lib.IntN.{ℤ, pos, nat_abs, ◌-ℤ◌}
-use Rattle.proof_kit.proofs.Size.{abs_mul}
+use Rattle.proof_kit.proofs.Size.{abs_mul, abs_sub_le}
+use Rattle.std.specs.Prelude.{min}
 use Rattle.units.specs.Units.{half_turn, full_turn}
 use Rattle.trig.specs.Sine.{cosine}
 use Rattle.latitudes.specs.declared.Geodetic.{Geodetic}
@@ -15,13 +16,13 @@ use Rattle.constants.specs.declared.Constants.{Constants}
 use Rattle.constants.specs.Derived.{series_of, constants_of}
 use Rattle.round_trip.specs.RoundTrip.{turn_gap, longitude_gap}
 
-pub far_gap : (d : ℤ) → nat_abs d ≤ full_turn → half_turn < nat_abs d → full_turn - nat_abs d ≡ turn_gap d
-unfolding turn_gap
-far_gap d most far = omega arith
+-- the difference of two angles of at most half a turn is at most a turn
+pub turn_most : (x y : ℤ) → nat_abs x ≤ half_turn → nat_abs y ≤ half_turn → nat_abs (y -ℤ x) ≤ full_turn
+turn_most x y h k = abs_sub_le y x k h
 
-pub near_gap : (d : ℤ) → nat_abs d ≤ half_turn → nat_abs d ≡ turn_gap d
+pub shorter_way : (d : ℤ) → nat_abs d ≤ full_turn → min (nat_abs d) (full_turn - nat_abs d) ≡ turn_gap d
 unfolding turn_gap
-near_gap d most = omega arith
+shorter_way d most = omega arith
 
 pub gap_most : (d : ℤ) → turn_gap d ≤ half_turn
 unfolding turn_gap

@@ -1,4 +1,5 @@
 mod ReadBack
-mod Sequence
-mod GapLaws
+pub mod Sequence
+pub mod GapLaws
 mod BackLaws
+pub mod Runs

@@ -4,8 +4,7 @@ use Rattle.std.specs.Int.Signed.{le_z}
 use Rattle.latitudes.specs.declared.Geodetic.{Geodetic}
 use Rattle.parameters.specs.declared.Parameters.{Parameters}
 use Rattle.azimuthal_forward.specs.Answer.{nearness, forward_of}
-use Rattle.azimuthal_inverse.specs.declared.GeodeticAnswer.{GeodeticAnswer}
-use Rattle.azimuthal_inverse.specs.declared.GeodeticAnswer.TheVariants.{Position, Refused}
+use Rattle.azimuthal_inverse.specs.Answer.{GeodeticAnswer, Position, Refused}
 use Rattle.round_trip.specs.RoundTrip.{least_nearness, latitude_bound, gap_bound, there_and_back}
 use Rattle.worst_gaps.specs.declared.tally.Tally.{Tally}
 use Rattle.worst_gaps.specs.InnerPositions.{next_of, latitude_at, longitude_at}

@@ -7,8 +7,10 @@ mod sets;
 mod tally;
 mod trips;
 
+use sine_table::SineTable;
+
 fn main(rt: HostRuntime) {
-    let t = sine_table::table();
+    let t = SineTable::new();
     sets::oblique(&rt, &t);
     sets::equatorial(&rt, &t);
     sets::north_polar(&rt, &t);

@@ -1,10 +1,8 @@
 // The sets that are run: every aspect, sphere and ellipsoid, with the limits of document 01's table among them.
-ghost use Rattle.sine_table.specs.Table.{IsTable};
-
 use crate::trips::row;
 use latitudes::Geodetic;
 use parameters::Parameters;
-use sine_table::Table;
+use sine_table::SineTable;
 
 // A set by its numbers, with one number for both false coordinates.
 fn set(a: i64, e2: i64, lat0: i64, lon0: i64, false_origin: i64) -> Parameters {
@@ -18,20 +16,18 @@ fn set(a: i64, e2: i64, lat0: i64, lon0: i64, false_origin: i64) -> Parameters {
     }
 }
 
-pub(crate) fn oblique(rt: &impl Print, t: &Table)
-    requires { IsTable t.now }
-{
-    row(rt, t, b"ETRS-LAEA", Parameters::etrs_laea());
+pub(crate) fn oblique(rt: &impl Print, t: &SineTable) {
+    row(rt, t, "ETRS-LAEA", Parameters::etrs_laea());
     row(
         rt,
         t,
-        b"oblique sphere",
+        "oblique sphere",
         set(600_000_000, 0, 144_000_000, -360_000_000, 0),
     );
     row(
         rt,
         t,
-        b"85 degrees north",
+        "85 degrees north",
         set(
             100_000_000,
             6_722_670,
@@ -43,7 +39,7 @@ pub(crate) fn oblique(rt: &impl Print, t: &Table)
     row(
         rt,
         t,
-        b"85 degrees south",
+        "85 degrees south",
         set(
             1_000_000_000,
             10_000_000,
@@ -54,30 +50,26 @@ pub(crate) fn oblique(rt: &impl Print, t: &Table)
     );
 }
 
-pub(crate) fn equatorial(rt: &impl Print, t: &Table)
-    requires { IsTable t.now }
-{
+pub(crate) fn equatorial(rt: &impl Print, t: &SineTable) {
     row(
         rt,
         t,
-        b"equatorial ellipsoid",
+        "equatorial ellipsoid",
         set(637_813_700, 6_694_380, 0, 0, 0),
     );
     row(
         rt,
         t,
-        b"equatorial sphere",
+        "equatorial sphere",
         set(100_000_000, 0, 0, 648_000_000, 0),
     );
 }
 
-pub(crate) fn north_polar(rt: &impl Print, t: &Table)
-    requires { IsTable t.now }
-{
+pub(crate) fn north_polar(rt: &impl Print, t: &SineTable) {
     row(
         rt,
         t,
-        b"north polar ellipsoid",
+        "north polar ellipsoid",
         set(
             637_838_800,
             6_722_670,
@@ -89,24 +81,22 @@ pub(crate) fn north_polar(rt: &impl Print, t: &Table)
     row(
         rt,
         t,
-        b"north polar sphere",
+        "north polar sphere",
         set(600_000_000, 0, 324_000_000, 0, 0),
     );
 }
 
-pub(crate) fn south_polar(rt: &impl Print, t: &Table)
-    requires { IsTable t.now }
-{
+pub(crate) fn south_polar(rt: &impl Print, t: &SineTable) {
     row(
         rt,
         t,
-        b"south polar ellipsoid",
+        "south polar ellipsoid",
         set(637_813_700, 10_000_000, -324_000_000, 0, 600_000_000),
     );
     row(
         rt,
         t,
-        b"south polar sphere",
+        "south polar sphere",
         set(100_000_000, 0, -324_000_000, 324_000_000, 0),
     );
 }

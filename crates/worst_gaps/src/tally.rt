@@ -1,6 +1,8 @@
 // What has been seen of one set's round trips.
-ghost use Rattle.std.specs.Prelude.{◌≡◌, max};
+ghost use Rattle.std.specs.Prelude.{◌≡◌};
 ghost use Rattle.worst_gaps.specs.InnerTallies.{no_trips, counted, with_trip, refused_once, is_within};
+
+use std::fmt;
 
 // Where a count stops.
 const COUNT_MOST: u64 = 1_000_000;
@@ -11,7 +13,7 @@ const LATITUDE_BOUND: u64 = 40;
 const GAP_BOUND: u64 = 40_000;
 
 // Gaps are the largest so far: latitude in mas, longitude in thousandths of a mas.
-#[derive(Drop)]
+#[derive(Clone, Copy, Debug, Default, PartialEq, Eq)]
 pub(crate) struct Tally {
     pub(crate) trips: u64,
     pub(crate) refused: u64,
@@ -19,39 +21,18 @@ pub(crate) struct Tally {
     pub(crate) longitude: u64,
 }
 
-fn larger(x: u64, y: u64) -> u64
-    ensures { result ≡ max x y }
-{
-    if x < y {
-        return y;
-    }
-    x
-}
-
 // One more, up to the most.
 fn more(n: u64) -> u64
     ensures { result ≡ counted n }
 {
-    if n < COUNT_MOST {
-        return n + 1;
-    }
-    COUNT_MOST
-}
-
-fn text(rt: &impl Print, bytes: &[u8]) {
-    printing::print(rt, bytes);
+    n.saturating_add(1).min(COUNT_MOST)
 }
 
 impl Tally {
     pub(crate) fn none() -> Tally
         ensures { result ≡ no_trips }
     {
-        Tally {
-            trips: 0,
-            refused: 0,
-            latitude: 0,
-            longitude: 0,
-        }
+        Tally::default()
     }
 
     // A round trip with these gaps.
@@ -60,9 +41,9 @@ impl Tally {
     {
         Tally {
             trips: more(self.trips),
-            refused: self.refused,
-            latitude: larger(self.latitude, latitude),
-            longitude: larger(self.longitude, longitude),
+            latitude: self.latitude.max(latitude),
+            longitude: self.longitude.max(longitude),
+            ..self
         }
     }
 
@@ -71,37 +52,36 @@ impl Tally {
         ensures { result ≡ refused_once self }
     {
         Tally {
-            trips: self.trips,
             refused: more(self.refused),
-            latitude: self.latitude,
-            longitude: self.longitude,
+            ..self
         }
     }
 
     // Whether demand 3 holds of all that was seen.
+    #[tactic(auto, unfolding(crate::specs::InnerTallies::is_within))]
     fn is_within_bounds(self) -> bool
         ensures { result ≡ is_within self }
     {
-        if self.refused != 0 {
-            return false;
-        }
-        if LATITUDE_BOUND < self.latitude {
-            return false;
-        }
-        self.longitude <= GAP_BOUND
+        self.refused == 0 && self.latitude <= LATITUDE_BOUND && self.longitude <= GAP_BOUND
     }
 
-    pub(crate) fn print(self, rt: &impl Print, name: &[u8]) {
-        text(rt, name);
-        text(rt, b":");
-        printing::size(rt, self.trips);
-        text(rt, b" round trips,");
-        printing::size(rt, self.refused);
-        text(rt, b" refused, worst latitude gap");
-        printing::size(rt, self.latitude);
-        text(rt, b" mas, worst longitude gap");
-        printing::size(rt, self.longitude);
-        text(rt, b" thousandths of a mas, within 40 mas");
+    pub(crate) fn print(self, rt: &impl Print, name: &str) {
+        let _ = print!(rt; "{name}: {self}");
         printing::verdict(rt, self.is_within_bounds());
+    }
+}
+
+impl fmt::Display for Tally {
+    fn fmt<W: fmt::Write>(&self, f: &mut fmt::Formatter<W>) -> fmt::Result {
+        let Tally {
+            trips,
+            refused,
+            latitude,
+            longitude,
+        } = self;
+        write!(
+            f,
+            "{trips} round trips, {refused} refused, worst latitude gap {latitude} mas, worst longitude gap {longitude} thousandths of a mas, within 40 mas"
+        )
     }
 }

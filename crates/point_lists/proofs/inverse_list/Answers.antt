@@ -1,0 +1,6 @@
+use Rattle.points.proofs.StageLaws.{inverse_listed}
+use Rattle.point_lists.proofs.ListedLaws.{call_same}
+use Rattle.point_lists.proofs.inverse_list.Goals as goal
+
+pub returns : goal.returns
+returns c = call_same c.args.p _ _ (inverse_listed c.args.p) _ _ _ _ _ _ _ _ _ c.list.ensures
