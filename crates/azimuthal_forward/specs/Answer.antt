@@ -4,8 +4,7 @@ use Rattle.units.specs.Units.{right_angle, half_turn}
 use Rattle.units.specs.Spans.{inside}
 use Rattle.units.specs.declared.refusals.Refusal.{Refusal}
 use Rattle.units.specs.Refusals.{number, out_of_limits, too_far, unless, first_refusal}
-use Rattle.units.specs.declared.answers.Told.{Told}
-use Rattle.units.specs.Answers.{accepted, refused, answered}
+use Rattle.units.specs.Answers.{Told, accepted, refused, answered}
 use Rattle.latitudes.specs.declared.Geodetic.{Geodetic}
 use Rattle.parameters.specs.declared.Parameters.{Parameters}
 use Rattle.parameters.specs.ParameterSet.{set_refusal}

@@ -3,8 +3,7 @@ use Rattle.std.specs.Prelude.{ℕ, cond, ℤ, ◌+ℤ◌, ◌-ℤ◌, Result, Ok
 use Rattle.units.specs.Spans.{on_plane, wrapped}
 use Rattle.units.specs.declared.refusals.Refusal.{Refusal}
 use Rattle.units.specs.Refusals.{number, out_of_limits, too_far, unless, first_refusal}
-use Rattle.units.specs.declared.answers.Told.{Told}
-use Rattle.units.specs.Answers.{accepted, refused, answered}
+use Rattle.units.specs.Answers.{Told, accepted, refused, answered}
 use Rattle.latitudes.specs.declared.Geodetic.{Geodetic}
 use Rattle.geodetic_search.specs.Reverse.{geodetic}
 use Rattle.parameters.specs.declared.Parameters.{Parameters}

@@ -7,8 +7,7 @@ use Rattle.units.specs.Units.{plane_limit}
 use Rattle.units.specs.Spans.{same, inside, on_plane}
 use Rattle.units.specs.declared.refusals.Refusal.{Refusal}
 use Rattle.units.specs.Refusals.{out_of_limits, number, refusal_number, unless}
-use Rattle.units.specs.declared.answers.Told.{Told}
-use Rattle.units.specs.Answers.{accepted, refused, answered}
+use Rattle.units.specs.Answers.{Told, accepted, refused, answered}
 use Rattle.cells.specs.declared.Side.{Side}
 use Rattle.cells.specs.declared.Side.TheVariants.{Metres100, Kilometre, Kilometres10}
 use Rattle.cells.specs.declared.CellNumbers.{CellNumbers}

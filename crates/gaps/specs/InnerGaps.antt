@@ -3,10 +3,9 @@
 use Rattle.std.specs.Prelude.{ℕ, ◌*◌, min, Bool, ◌&&◌, leb, eqb, ℤ, nat_abs, ◌-ℤ◌, Result, Ok, Err}
 use Rattle.integers.specs.Near.{nearest}
 use Rattle.units.specs.Units.{unit}
-use Rattle.units.specs.declared.answers.Told.{Told}
 use Rattle.units.specs.declared.refusals.Refusal.{Refusal}
 use Rattle.units.specs.Refusals.{number}
-use Rattle.units.specs.Answers.{accepted, refused}
+use Rattle.units.specs.Answers.{Told, accepted, refused}
 use Rattle.gaps.specs.declared.Gaps.{Gaps}
 
 -- what an answer tells: its two values, or its refusal number

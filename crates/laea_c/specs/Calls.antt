@@ -1,8 +1,7 @@
 -- The set as C has it, and what calls for C return and write, over the definitions of the crates that they call.
 -- A lent list is the list of its values: of the whole numbers themselves (ℤ) where it is of i64.
 use Rattle.std.specs.Prelude.{ℕ, ◌≡◌, List, [], ◌∷◌, ℤ, length, Float}
-use Rattle.units.specs.declared.answers.Told.{Told}
-use Rattle.units.specs.Answers.{answered, written}
+use Rattle.units.specs.Answers.{Told, answered, written}
 use Rattle.grid_codes.specs.Codes.{code_text, write_refusal, into_first}
 use Rattle.code_reading.specs.Reading.{CodeTold}
 use Rattle.parameters.specs.declared.Parameters.{Parameters}

@@ -5,7 +5,7 @@ use mathlib.Core.Bool.{true, false}
 use lib.Dec.{lit≤}
 use lib.IntN.{pos, neg_ℤ}
 use lib.Ieee.{nan, lt, neg}
-use Rattle.units.specs.declared.answers.Told.{Told}
+use Rattle.units.specs.Answers.{Told}
 use Rattle.floats.specs.Limits.{is_finite, beyond, within_limit}
 use Rattle.parameters.specs.ParameterSet.{etrs_laea}
 use Rattle.parameters.specs.FieldTheorems.{number_of, wrong}

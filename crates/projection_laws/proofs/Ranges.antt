@@ -20,8 +20,7 @@ use Rattle.constants.specs.declared.Constants.{Constants}
 use Rattle.azimuthal_inverse.specs.Answer.{GeodeticAnswer, Position, latitude_from, longitude_from, inverse_far, inverse_refusal, inverse_latitude, inverse_longitude, geodetic_told, inverse_of, inverse_told}
 use Rattle.units.specs.Spans.{within, on_plane, wrapped}
 use Rattle.units.specs.Refusals.{unless}
-use Rattle.units.specs.declared.answers.Told.{Told}
-use Rattle.units.specs.Answers.{accepted, refused, answered}
+use Rattle.units.specs.Answers.{Told, accepted, refused, answered}
 use Rattle.parameters.specs.ParameterSet.{set_refusal}
 use Rattle.geodetic_search.specs.Reverse.{geodetic}
 use Rattle.constants.specs.Derived.{constants_of}

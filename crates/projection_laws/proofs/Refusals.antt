@@ -6,8 +6,7 @@ use mathlib.Core.List.{◌∷◌}
 use Prim.Native.Nat.{ℕ, zero, suc}
 use native.Mathlib.Omega.{arith}
 use lib.IntN.{ℤ}
-use Rattle.units.specs.declared.answers.Told.{Told}
-use Rattle.units.specs.Answers.{accepted, refused, answered}
+use Rattle.units.specs.Answers.{Told, accepted, refused, answered}
 use Rattle.units.proofs.Chains.{Gives, chain, another}
 use Rattle.latitudes.specs.declared.Geodetic.{Geodetic}
 use Rattle.parameters.proofs.Fields.{set_gives}

@@ -1,6 +1,11 @@
 -- Document 01: "Where an answer is an enum, a definition gives this paper's number and values for each of its cases, and the promises use that definition."
 use Rattle.std.specs.Prelude.{ℕ, zero, suc, List, ℤ, pos}
-use Rattle.units.specs.declared.answers.Told.{Told}
+
+-- what an answer of a single call tells: its refusal number, 0 where it has none, and its two values
+pub record Told : Type 0 where
+  pub refusal : ℕ
+  pub first : ℤ
+  pub second : ℤ
 
 -- what an accepted answer tells, and what a refused one
 abbrev pub accepted : ℤ → ℤ → Told

@@ -2,7 +2,6 @@
 // and the tests of whether a number is within its limits.
 #![tactic(auto)]
 
-pub mod answers;
 pub mod refusals;
 
 ghost use Rattle.std.specs.Prelude.{◌≡◌, ◌&&◌, ◌≤◌, ◌*◌, nat_abs};
@@ -46,13 +45,6 @@ pub const MILLIWATT: u64 = 1_000_000;
 pub const PLANE_LEAST: i64 = -5_000_000_000;
 
 pub const PLANE_MOST: i64 = 5_000_000_000;
-
-// Whether both tests are passed.
-pub fn both(first: bool, second: bool) -> bool
-    ensures { result ≡ (first && second) }
-{
-    if first { second } else { false }
-}
 
 // Whether z is from low to high, both counted.
 #[tactic(auto, unfolding(crate::specs::Spans::within))]

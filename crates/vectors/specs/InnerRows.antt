@@ -1,6 +1,6 @@
 -- What a row asks, and when it ends in "ok".
 use Rattle.std.specs.Prelude.{ℕ, Bool, true, false, cond, ℤ}
-use Rattle.units.specs.declared.answers.Told.{Told}
+use Rattle.units.specs.Answers.{Told}
 use Rattle.latitudes.specs.Latitude.{latitude}
 use Rattle.parameters.specs.declared.Parameters.{Parameters}
 use Rattle.azimuthal_forward.specs.Answer.{forward_told}

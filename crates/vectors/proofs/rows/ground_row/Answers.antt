@@ -3,7 +3,7 @@
 use Rattle.std.proofs.Common.{ap, ap₂, ◌∙◌, ℤ, rules}
 use mir.Syntax.{w64}
 use mir.Facts.{to_z-of_z}
-use Rattle.units.specs.declared.answers.Told.{Told}
+use Rattle.units.specs.Answers.{Told}
 use Rattle.gaps.specs.declared.Gaps.{Gaps}
 use Rattle.gaps.specs.InnerGaps.{on_ground, is_right}
 use Rattle.vectors.specs.InnerRows.{is_near_on_ground}
