@@ -87,7 +87,8 @@ fn answer_some(
 }
 
 // Answers the input's lines, and leaves what is left of it. A proved loop has to end, and nothing says
-// that the input does, so there are as many turns as no run uses up.
+// that the input does, so there are as many turns as no run uses up; `rt.forever()` would need leave to
+// wait for ever.
 fn answer_all(
     rt: &(impl Print + Eprint),
     input: &mut impl Read,

@@ -9,7 +9,7 @@ use native.Mathlib.Omega.{arith}
 use borrow.Author.Tests.{eq-eqb, ne_eqb, eqb-true}
 use lib.Dec.{eqb}
 use lib.ListN.{length, take, drop, length-drop, drop_of_length-le}
-use lib.Seq.{slice, take_all, take-length, take-append_seam, drop-append-add}
+use lib.Seq.{take_all, take-append_seam, drop-append-add}
 use Rattle.text.specs.Cutting.{index_after, index_of, up_to, after}
 
 pub index_within : (b : ℕ) (xs : List ℕ) → index_of b xs ≤ length xs
@@ -24,10 +24,6 @@ index_within b (x ∷ xs) = either (eqb x b) (index_within b xs)
 -- the part of a list from an index on, as code lends it
 pub rest_of : (n : ℕ) (xs : List ℕ) → take (length xs - n) (drop n xs) ≡ drop n xs
 rest_of n xs = take_all (length xs - n) (drop n xs) (simp length-drop (omega arith))
-
--- what `find` searches, from an index to the end
-pub found : (b from : ℕ) (xs : List ℕ) {r : ℕ} → r ≡ from + index_of b (slice from (length xs) xs) → r ≡ from + index_of b (drop from xs)
-found b from xs e = e ∙ ap (λ (l : List ℕ). from + index_of b (drop from l)) (take-length xs)
 
 -- the two parts, as code lends them, where n is the index at which they are cut
 module _ (b : ℕ) (xs : List ℕ) (n : ℕ) (e : n ≡ index_of b xs) where

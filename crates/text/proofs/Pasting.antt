@@ -1,23 +1,18 @@
 -- Laws of `pasted`, from those of the kit's `paste`: a text put after another leaves their join, since the first ends where the second starts
 -- and the bytes before and after both stay. Assumes nothing.
 use mathlib.Core.Path.{◌≡◌, sym, ap, ap₂, ◌∙◌}
-use mathlib.Core.List.{List, [], ◌∷◌, ◌++◌, append_assoc}
-use Prim.Native.Nat.{ℕ, ◌+◌, ◌≤◌, ◌<◌}
-use native.Mathlib.Nat.{zero-add, add_assoc, le_refl}
-use native.Mathlib.Numerals.{add-one}
+use mathlib.Core.List.{List, [], ◌++◌, append_assoc}
+use Prim.Native.Nat.{ℕ, ◌+◌, ◌≤◌}
+use native.Mathlib.Nat.{add_assoc, le_refl}
 use native.Mathlib.Omega.{arith}
-use lib.ListN.{length, take, drop, set, length-append}
-use lib.Seq.{paste-zero, length-paste, take-paste, drop-paste, set_split, take-length, drop-drop, append_snoc}
+use lib.ListN.{length, take, drop, length-append}
+use lib.Seq.{paste-zero, length-paste, take-paste, drop-paste, take-length, drop-drop}
 use Rattle.text.specs.Pasting.{pasted, Put}
 
 -- the text in full
 pub pasted_parts : (xs : List ℕ) (at : ℕ) (ys : List ℕ) → pasted xs at ys ≡ take at xs ++ ys ++ drop (at + length ys) xs
 unfolding pasted
 pasted_parts xs at ys = ap (λ (l : List ℕ). take at xs ++ l ++ drop (at + length ys) xs) (take-length ys)
-
--- the same from the start
-pub pasted_first : (xs ys : List ℕ) → pasted xs 0 ys ≡ ys ++ drop (length ys) xs
-pasted_first xs ys = pasted_parts xs 0 ys ∙ ap (λ (n : ℕ). ys ++ drop n xs) (zero-add (length ys))
 
 pub length_pasted : (xs : List ℕ) (at : ℕ) (ys : List ℕ) → at + length ys ≤ length xs → length (pasted xs at ys) ≡ length xs
 unfolding pasted
@@ -39,12 +34,6 @@ pub pasted_none : (xs : List ℕ) (at : ℕ) → xs ≡ pasted xs at []
 unfolding pasted
 pasted_none xs at = paste-zero xs at []
 
-pub pasted_one : (xs : List ℕ) (at b : ℕ) → at < length xs → set xs at b ≡ pasted xs at (b ∷ [])
-pasted_one xs at b room =
-    set_split xs at b room
-    ∙ sym (append_snoc (take at xs) b (drop (at + 1) xs) ∙ ap (λ (n : ℕ). take at xs ++ b ∷ drop n xs) (add-one at))
-    ∙ sym (pasted_parts xs at (b ∷ []))
-
 pub pasted_more :
     (xs : List ℕ) (at : ℕ) (ys zs : List ℕ) →
     at ≤ length xs →
@@ -60,9 +49,6 @@ pasted_more xs at ys zs inside =
 
 -- ---- what calls leave, one after the other
 
-pub room_first : (at : ℕ) (ys zs : List ℕ) {n : ℕ} → at + length (ys ++ zs) ≤ n → at + length ys ≤ n
-room_first at ys zs room = omega (arith, length-append ys zs)
-
 module _ {xs : List ℕ} {at : ℕ} {ys out : List ℕ} {end : ℕ} (p : Put xs at ys out end) where
   -- another name for the text
   pub put_as : {zs : List ℕ} → ys ≡ zs → Put xs at zs out end
@@ -71,27 +57,12 @@ module _ {xs : List ℕ} {at : ℕ} {ys out : List ℕ} {end : ℕ} (p : Put xs 
   pub put_length : at + length ys ≤ length xs → length out ≡ length xs
   put_length room = ap length p.bytes ∙ length_pasted xs at ys room
 
-  -- another text after it, for which there is room where there is for both
-  pub room_after : (zs : List ℕ) → at + length (ys ++ zs) ≤ length xs → end + length zs ≤ length out
-  room_after zs room =
-      let long : length out ≡ length xs = put_length (omega (arith, length-append ys zs)) in
-      omega (arith, p.next, length-append ys zs)
-
   pub put_both : {zs out₂ : List ℕ} {end₂ : ℕ} → at ≤ length xs → Put out end zs out₂ end₂ → Put xs at (ys ++ zs) out₂ end₂
   put_both {zs} inside q = record {
     bytes = q.bytes ∙ ap₂ (λ (l : List ℕ) (n : ℕ). pasted l n zs) p.bytes p.next ∙ pasted_more xs at ys zs inside;
     next = omega (arith, p.next, q.next, length-append ys zs);
   }
 
-  -- one byte after it
-  pub put_next : (b : ℕ) → end < length xs → Put xs at (ys ++ (b ∷ [])) (set out end b) (end + 1)
-  put_next b room =
-      let long : length out ≡ length xs = put_length (omega (arith, p.next)) in
-      put_both (omega (arith, p.next)) (record { bytes = pasted_one out end b (omega arith); next = omega arith })
-
--- nothing, and one byte
+-- nothing
 pub put_none : (xs : List ℕ) (at : ℕ) → Put xs at [] xs at
 put_none xs at = record { bytes = pasted_none xs at; next = omega arith }
-
-pub put_one : (xs : List ℕ) (at b : ℕ) → at < length xs → Put xs at (b ∷ []) (set xs at b) (at + 1)
-put_one xs at b room = record { bytes = pasted_one xs at b room; next = omega arith }

@@ -2,21 +2,14 @@
 use mathlib.Core.Path.{◌≡◌, refl, sym, ap, ◌∙◌}
 use mathlib.Core.Bool.{Bool, true, false}
 use mathlib.Core.List.{List, [], ◌∷◌}
-use Prim.Native.Nat.{ℕ, zero, suc, ◌+◌, ◌-◌, ◌<◌, ◌≤◌}
+use Prim.Native.Nat.{ℕ, zero, suc, ◌+◌, ◌-◌, ◌<◌}
 use native.Mathlib.Omega.{arith}
 use lib.Dec.{eqb}
 use lib.ListN.{length, take, drop, length-drop}
-use lib.Seq.{slice, length-take-le}
-use Rattle.std.proofs.lemmas.List.{drop-take}
+use lib.Seq.{length-take-le}
 use Rattle.memchr.specs.Find.{Nowhere, Passes, is_byte}
 use Rattle.text.specs.Cutting.{index_after, index_of, IsCut}
 use Rattle.text.proofs.Cutting.{before_cut, after_cut, rest_of}
-
--- what the code searches, from one index to another
-pub part_of : (from to : ℕ) (xs : List ℕ) → from ≤ to → take (to - from) (drop from xs) ≡ slice from to xs
-part_of from to xs order =
-    let whole : from + (to - from) ≡ to = omega arith in
-    sym (drop-take from (to - from) xs) ∙ ap (λ (n : ℕ). drop from (take n xs)) whole
 
 -- a byte that is not the first is looked for in the rest
 further : (b x : ℕ) (xs : List ℕ) → ¬ (eqb x b ≡ true) → index_of b (x ∷ xs) ≡ suc (index_of b xs)

@@ -2,7 +2,6 @@
 #![tactic(auto)]
 
 ghost use Rattle.std.specs.Prelude.{◌≡◌, ◌+◌, ◌++◌, ◌≤◌, length, MatchOption};
-ghost use Rattle.std.proofs.Math.Seq.{slice};
 ghost use Rattle.arrayvec.specs.ArrayString.{array_string_len};
 ghost use Rattle.text.specs.Cutting.{index_of, IsCut};
 ghost use Rattle.text.specs.Numbers.{numeral, leading_zero, unsigned_of, number_of, number_text, labelled, pair_text};
@@ -12,19 +11,6 @@ use arrayvec::ArrayString;
 use integers::signed;
 use itoa::Buffer;
 use memchr::memchr;
-
-// The first index from `from` on and before `to` at which b stands, or `to` where it stands at none of them.
-pub fn find(bytes: &[u8], from: usize, to: usize, b: u8) -> usize
-    requires order { from ≤ to }
-    requires in_bounds { to ≤ length bytes.now }
-    ensures value { result ≡ from + index_of b (slice from to bytes.now) }
-    ensures bound { result ≤ to }
-{
-    match memchr(b, &bytes[from..to]) {
-        Some(k) => from + k,
-        None => to,
-    }
-}
 
 // The bytes before the first b and those after it; nothing where b stands nowhere.
 #[tactic(auto, using(crate::proofs::Searching::cut_found, crate::proofs::Searching::index_missing))]
@@ -74,7 +60,8 @@ pub fn read_number(bytes: &[u8]) -> Option<i64>
     }
 }
 
-// Writes bytes at an index and answers the index after them.
+// Writes bytes at an index and answers the index after them: the answers of a piece of input go, one after the other,
+// into bytes that the caller lends.
 pub fn put_bytes(out: &mut [u8], at: usize, bytes: &[u8]) -> usize
     requires { at + length bytes.now ≤ length out.old }
     ensures { Put out.old at bytes.now out.new result }
