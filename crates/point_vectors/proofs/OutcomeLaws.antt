@@ -3,14 +3,12 @@
 use Rattle.std.proofs.Common.{◌≡◌, ℕ, Bool, List, ◌++◌, take, drop, ap, ◌∙◌, ap₂}
 use lib.Ieee.{Float}
 use Rattle.parameters.specs.declared.Parameters.{Parameters}
-use Rattle.point_lists.specs.declared.ListAnswer.{ListAnswer}
 use Rattle.row_lists.specs.Rows.{zeros}
 use Rattle.row_lists.specs.InnerRows.{row_of}
-use Rattle.point_lists.specs.Lists.{list_answer, ListCall}
+use Rattle.point_lists.specs.Lists.{ListAnswer, list_answer, ListCall}
 use Rattle.judging.specs.declared.doubles.Digest.{Digest}
 use Rattle.judging.specs.InnerDoubles.{digest_of}
-use Rattle.point_vectors.specs.declared.list_rows.Outcome.{Outcome}
-use Rattle.point_vectors.specs.InnerLists.{filled, marks_of, steps_of, refusal_of, outcome_of}
+use Rattle.point_vectors.specs.InnerLists.{Outcome, filled, marks_of, steps_of, refusal_of, outcome_of}
 
 module _ (p : Parameters) (forward : Bool) (a b c d e : ℕ) (x y : Float) {leading trailing : List Float} {marks : List ℕ} {answer : ListAnswer}
     {digest : Digest} where

@@ -1,16 +1,17 @@
 -- The list calls that are run, and when a row of one ends in "ok".
-use Rattle.std.specs.Prelude.{ℕ, zero, suc, Bool, false, ◌&&◌, List, [], ◌∷◌, ◌++◌, take, drop, replicate, pos, negsuc, Float}
+use Rattle.std.specs.Prelude.{ℕ, ◌≤◌, zero, suc, Bool, false, ◌&&◌, List, [], ◌∷◌, ◌++◌, take, drop, replicate, pos, negsuc, Float}
 use Rattle.std.specs.Float.{fin, binary64}
 use Rattle.std.specs.Float.Ieee.{mul, of_int}
 use Rattle.units.specs.Answers.{written}
 use Rattle.parameters.specs.declared.Parameters.{Parameters}
-use Rattle.pairs.specs.declared.Row.{Row}
+use Rattle.pairs.specs.Pairs.{Row}
 use Rattle.row_lists.specs.Rows.{rows, first_values, second_values, marks, zeros}
 use Rattle.row_lists.specs.InnerRows.{row_of}
-use Rattle.point_lists.specs.Lists.{list_refusal, list_answer}
+use Rattle.point_lists.specs.Lists.{ListAnswer, list_answered, list_refusal, list_answer}
 use Rattle.judging.specs.declared.doubles.Digest.{Digest}
 use Rattle.judging.specs.InnerDoubles.{is_told, digest_of, same_digest}
-use Rattle.point_vectors.specs.declared.list_rows.Outcome.{Outcome}
+use Rattle.point_vectors.specs.declared.list_rows.Lengths.{Lengths}
+use Rattle.point_vectors.specs.declared.list_rows.Outcome.{Outcome as GivenOutcome}
 
 -- ---- before the call
 
@@ -35,6 +36,18 @@ steps_from start (suc n) step = mul binary64 (of_int binary64 (pos start)) step 
 
 abbrev pub steps_of : Float → List Float
 steps_of step = steps_from 0 room step
+
+-- each list lends at most all of its array
+abbrev pub WithinRoom : Lengths → Type 0
+WithinRoom lengths = (lengths.xs ≤ room) × (lengths.ys ≤ room) × (lengths.leading ≤ room) × (lengths.trailing ≤ room) × (lengths.marks ≤ room)
+
+-- what a call answered, and the digest of what it left in its outputs
+pub record Outcome : Type 0 where
+  pub answer : ListAnswer
+  pub digest : Digest
+
+abbrev pub outcome : GivenOutcome → Outcome
+outcome given = record { answer = list_answered given.answer; digest = given.digest }
 
 -- ---- after it: lists of a, b, c, d and e elements, the k-th point at k steps of x and y
 

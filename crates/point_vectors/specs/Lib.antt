@@ -1,1 +1,2 @@
+pub mod InnerRows
 pub mod InnerLists

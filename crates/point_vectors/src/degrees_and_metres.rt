@@ -1,14 +1,10 @@
 // Points in degrees and metres: limits, signs of zero, the half turn, NaN and the infinities.
 // The next double after a limit is written by its shortest digits.
-use crate::doubles::{infinity, nan};
-use crate::names;
-use crate::point_rows::{FORWARD, INVERSE, accepted, refused, row};
-use crate::sets::{ALL_WRONG, SPHERE, wrong};
+use crate::point_rows::Direction::{self, Forward, Inverse};
+use crate::point_rows::row;
+use crate::sets::{ALL_WRONG, ONE_WRONG, SPHERE};
 use parameters::Parameters;
-use units::refusals::{
-    BAD_A, BAD_E2, BAD_FALSE_EASTING, BAD_FALSE_NORTHING, BAD_LAT0, BAD_LON0, NOT_FINITE,
-    OUT_OF_LIMITS, TOO_FAR,
-};
+use units::refusals::Refusal;
 
 // The centre of ETRS-LAEA and its false origin.
 const LAT0: f64 = 52.0;
@@ -20,25 +16,32 @@ const FALSE_EASTING: f64 = 4_321_000.0;
 const FALSE_NORTHING: f64 = 3_210_000.0;
 
 // ETRS-LAEA, accepted.
-fn degrees(rt: &impl Print, k: usize, lat: f64, lon: f64, first: f64, second: f64) {
-    let p = Parameters::etrs_laea();
-    row(rt, k, FORWARD, p, lat, lon, accepted(first, second));
+fn degrees(rt: &impl Print, name: &str, lat: f64, lon: f64, first: f64, second: f64) {
+    let p = Parameters::ETRS_LAEA;
+    row(rt, name, Forward, p, lat, lon, Ok((first, second)));
 }
 
 // ETRS-LAEA, refused.
-fn refused_row(rt: &impl Print, k: usize, forward: bool, x: f64, y: f64, number: u8) {
-    let p = Parameters::etrs_laea();
-    row(rt, k, forward, p, x, y, refused(number));
+fn refused_row(
+    rt: &impl Print,
+    name: &str,
+    direction: Direction,
+    x: f64,
+    y: f64,
+    refusal: Refusal,
+) {
+    let p = Parameters::ETRS_LAEA;
+    row(rt, name, direction, p, x, y, Err(refusal));
 }
 
 pub(crate) fn centre(rt: &impl Print) {
-    degrees(rt, names::CENTRE, LAT0, LON0, FALSE_EASTING, FALSE_NORTHING);
-    let p = Parameters::etrs_laea();
-    let right = accepted(LAT0, LON0);
+    degrees(rt, "centre", LAT0, LON0, FALSE_EASTING, FALSE_NORTHING);
+    let p = Parameters::ETRS_LAEA;
+    let right = Ok((LAT0, LON0));
     row(
         rt,
-        names::CENTRE,
-        INVERSE,
+        "centre",
+        Inverse,
         p,
         FALSE_EASTING,
         FALSE_NORTHING,
@@ -46,165 +49,133 @@ pub(crate) fn centre(rt: &impl Print) {
     );
 }
 
-fn beyond(rt: &impl Print, k: usize, lat: f64, lon: f64) {
-    refused_row(rt, k, FORWARD, lat, lon, OUT_OF_LIMITS);
+fn beyond(rt: &impl Print, name: &str, lat: f64, lon: f64) {
+    refused_row(rt, name, Forward, lat, lon, Refusal::OutOfLimits);
 }
 
 // −180° and 180° are alike.
 pub(crate) fn limits(rt: &impl Print) {
+    degrees(rt, "latitude 90", 90.0, LON0, FALSE_EASTING, 7_369_716.22);
+    beyond(rt, "next up", 90.00000000000001, LON0);
     degrees(
         rt,
-        names::LATITUDE_90,
-        90.0,
-        LON0,
-        FALSE_EASTING,
-        7_369_716.22,
-    );
-    beyond(rt, names::NEXT_UP, 90.00000000000001, LON0);
-    degrees(
-        rt,
-        names::LATITUDE_MINUS_90,
+        "latitude -90",
         -90.0,
         LON0,
         FALSE_EASTING,
         -8_828_174.47,
     );
-    beyond(rt, names::NEXT_DOWN, -90.00000000000001, LON0);
+    beyond(rt, "next down", -90.00000000000001, LON0);
+    degrees(rt, "longitude 180", 80.0, 180.0, 4_532_329.67, 8_390_463.61);
+    beyond(rt, "next up", 80.0, 180.00000000000003);
     degrees(
         rt,
-        names::LONGITUDE_180,
-        80.0,
-        180.0,
-        4_532_329.67,
-        8_390_463.61,
-    );
-    beyond(rt, names::NEXT_UP, 80.0, 180.00000000000003);
-    degrees(
-        rt,
-        names::LONGITUDE_MINUS_180,
+        "longitude -180",
         80.0,
         -180.0,
         4_532_329.67,
         8_390_463.61,
     );
-    beyond(rt, names::NEXT_DOWN, 80.0, -180.00000000000003);
+    beyond(rt, "next down", 80.0, -180.00000000000003);
 }
 
 // No set reaches 50,000,000 m, so the limit itself is refused 4.
-fn plane_limit(rt: &impl Print, k: usize, limit: f64, next: f64) {
-    refused_row(rt, k, INVERSE, limit, FALSE_NORTHING, TOO_FAR);
+fn plane_limit(rt: &impl Print, name: &str, limit: f64, next: f64) {
+    refused_row(rt, name, Inverse, limit, FALSE_NORTHING, Refusal::TooFar);
     refused_row(
         rt,
-        names::NEXT,
-        INVERSE,
+        "next",
+        Inverse,
         next,
         FALSE_NORTHING,
-        OUT_OF_LIMITS,
+        Refusal::OutOfLimits,
     );
-    refused_row(rt, k, INVERSE, FALSE_EASTING, limit, TOO_FAR);
-    refused_row(rt, names::NEXT, INVERSE, FALSE_EASTING, next, OUT_OF_LIMITS);
+    refused_row(rt, name, Inverse, FALSE_EASTING, limit, Refusal::TooFar);
+    refused_row(
+        rt,
+        "next",
+        Inverse,
+        FALSE_EASTING,
+        next,
+        Refusal::OutOfLimits,
+    );
 }
 
 pub(crate) fn plane_limits(rt: &impl Print) {
-    plane_limit(rt, names::PLANE_MOST, 50_000_000.0, 50_000_000.00000001);
-    plane_limit(rt, names::PLANE_LEAST, -50_000_000.0, -50_000_000.00000001);
+    plane_limit(rt, "50000000", 50_000_000.0, 50_000_000.00000001);
+    plane_limit(rt, "-50000000", -50_000_000.0, -50_000_000.00000001);
 }
 
 // −0.0 is 0, and so is the least double.
 pub(crate) fn zeros(rt: &impl Print) {
-    let origin = accepted(0.0, 0.0);
-    row(rt, names::MINUS_ZERO, FORWARD, SPHERE, -0.0, -0.0, origin);
-    let east = accepted(8_485_281.38, 0.0);
-    row(rt, names::MINUS_ZERO, FORWARD, SPHERE, -0.0, 90.0, east);
-    row(rt, names::MINUS_ZERO, INVERSE, SPHERE, -0.0, -0.0, origin);
-    row(rt, names::LEAST, FORWARD, SPHERE, 5e-324, -5e-324, origin);
-    row(rt, names::LEAST, INVERSE, SPHERE, 5e-324, -5e-324, origin);
+    let origin = Ok((0.0, 0.0));
+    row(rt, "-0.0", Forward, SPHERE, -0.0, -0.0, origin);
+    let east = Ok((8_485_281.38, 0.0));
+    row(rt, "-0.0", Forward, SPHERE, -0.0, 90.0, east);
+    row(rt, "-0.0", Inverse, SPHERE, -0.0, -0.0, origin);
+    row(rt, "least", Forward, SPHERE, 5e-324, -5e-324, origin);
+    row(rt, "least", Inverse, SPHERE, 5e-324, -5e-324, origin);
 }
 
 // Halves go away from zero: 1/256 degree is 14,063 mas, and 0.125 m is 13 cm.
 pub(crate) fn halves(rt: &impl Print) {
     let degree = 0.00390625;
-    let metres = accepted(-409.07, 409.07);
-    row(
-        rt,
-        names::PART_OF_A_DEGREE,
-        FORWARD,
-        SPHERE,
-        degree,
-        -degree,
-        metres,
-    );
-    let degrees = accepted(-0.000001111111111111111, 0.000001111111111111111);
-    row(
-        rt,
-        names::PART_OF_A_METRE,
-        INVERSE,
-        SPHERE,
-        0.125,
-        -0.125,
-        degrees,
-    );
+    let metres = Ok((-409.07, 409.07));
+    row(rt, "1/256 degree", Forward, SPHERE, degree, -degree, metres);
+    let degrees = Ok((-0.000001111111111111111, 0.000001111111111111111));
+    row(rt, "1/8 m", Inverse, SPHERE, 0.125, -0.125, degrees);
 }
 
 // In each place, and in both.
 fn not_finite(rt: &impl Print, x: f64) {
-    refused_row(rt, names::LATITUDE, FORWARD, x, LON0, NOT_FINITE);
-    refused_row(rt, names::LONGITUDE, FORWARD, LAT0, x, NOT_FINITE);
-    refused_row(rt, names::BOTH, FORWARD, x, x, NOT_FINITE);
-    refused_row(rt, names::FIRST, INVERSE, x, FALSE_NORTHING, NOT_FINITE);
-    refused_row(rt, names::SECOND, INVERSE, FALSE_EASTING, x, NOT_FINITE);
-    refused_row(rt, names::BOTH, INVERSE, x, x, NOT_FINITE);
+    refused_row(rt, "latitude", Forward, x, LON0, Refusal::NotFinite);
+    refused_row(rt, "longitude", Forward, LAT0, x, Refusal::NotFinite);
+    refused_row(rt, "both", Forward, x, x, Refusal::NotFinite);
+    refused_row(rt, "first", Inverse, x, FALSE_NORTHING, Refusal::NotFinite);
+    refused_row(rt, "second", Inverse, FALSE_EASTING, x, Refusal::NotFinite);
+    refused_row(rt, "both", Inverse, x, x, Refusal::NotFinite);
 }
 
 pub(crate) fn not_numbers(rt: &impl Print) {
-    not_finite(rt, nan());
-    not_finite(rt, infinity());
-    not_finite(rt, -infinity());
+    for x in [f64::NAN, f64::INFINITY, f64::NEG_INFINITY] {
+        not_finite(rt, x);
+    }
 }
 
-// The field of this number is wrong, and the coordinates are refused too.
-fn bad_field(rt: &impl Print, forward: bool, number: u8, far: f64, x: f64) {
-    let right = refused(number);
-    row(rt, names::BAD_FIELD, forward, wrong(number), far, x, right);
-}
-
-// Each field alone, and all: the first is told.
-fn bad_fields(rt: &impl Print, forward: bool, far: f64, x: f64) {
-    bad_field(rt, forward, BAD_A, far, x);
-    bad_field(rt, forward, BAD_E2, far, x);
-    bad_field(rt, forward, BAD_LAT0, far, x);
-    bad_field(rt, forward, BAD_LON0, far, x);
-    bad_field(rt, forward, BAD_FALSE_EASTING, far, x);
-    bad_field(rt, forward, BAD_FALSE_NORTHING, far, x);
-    row(
-        rt,
-        names::BAD_SET,
-        forward,
-        ALL_WRONG,
-        far,
-        x,
-        refused(BAD_A),
-    );
+// Sets with each field wrong alone, and with all: the first is told, though the coordinates are refused too.
+fn bad_sets(rt: &impl Print, direction: Direction, far: f64, x: f64) {
+    for (refusal, p) in ONE_WRONG {
+        row(rt, "bad field", direction, p, far, x, Err(refusal));
+    }
+    let right = Err(Refusal::BadA);
+    row(rt, "bad set", direction, ALL_WRONG, far, x, right);
 }
 
 // 2 is tested before 3, and the set before both.
-fn order_of(rt: &impl Print, forward: bool, far: f64, x: f64) {
-    refused_row(rt, names::BEYOND, forward, far, x, NOT_FINITE);
-    refused_row(rt, names::BEYOND, forward, x, far, NOT_FINITE);
-    bad_fields(rt, forward, far, x);
+fn order_of(rt: &impl Print, direction: Direction, far: f64, x: f64) {
+    refused_row(rt, "beyond", direction, far, x, Refusal::NotFinite);
+    refused_row(rt, "beyond", direction, x, far, Refusal::NotFinite);
+    bad_sets(rt, direction, far, x);
 }
 
 pub(crate) fn order(rt: &impl Print) {
-    order_of(rt, FORWARD, 91.0, nan());
-    order_of(rt, FORWARD, -181.0, infinity());
-    order_of(rt, INVERSE, 50_000_001.0, nan());
-    order_of(rt, INVERSE, -50_000_001.0, infinity());
+    order_of(rt, Forward, 91.0, f64::NAN);
+    order_of(rt, Forward, -181.0, f64::INFINITY);
+    order_of(rt, Inverse, 50_000_001.0, f64::NAN);
+    order_of(rt, Inverse, -50_000_001.0, f64::INFINITY);
 }
 
 // The greatest double, and the antipode.
 pub(crate) fn too_far(rt: &impl Print) {
     let far = 1.7976931348623157e308;
-    refused_row(rt, names::FAR, FORWARD, far, LON0, OUT_OF_LIMITS);
-    refused_row(rt, names::FAR, INVERSE, FALSE_EASTING, -far, OUT_OF_LIMITS);
-    refused_row(rt, names::ANTIPODE, FORWARD, -52.0, -170.0, TOO_FAR);
+    refused_row(rt, "far", Forward, far, LON0, Refusal::OutOfLimits);
+    refused_row(
+        rt,
+        "far",
+        Inverse,
+        FALSE_EASTING,
+        -far,
+        Refusal::OutOfLimits,
+    );
+    refused_row(rt, "antipode", Forward, -52.0, -170.0, Refusal::TooFar);
 }

@@ -1,30 +1,31 @@
 // Doubles, printed by their bits.
-use floats::is_finite;
-use judging::doubles::bits;
-use printing::words;
-use printing::words::word;
+use std::fmt;
 
-// The bits in hexadecimal, or a name.
-pub(crate) fn show(rt: &impl Print, x: f64) {
-    if is_finite(x) {
-        printing::bits(rt, bits(x));
-        return;
+// A double as a row shows it: its bits in hexadecimal, or a name.
+#[derive(Clone, Copy)]
+pub(crate) struct Bits(pub(crate) f64);
+
+impl fmt::Display for Bits {
+    fn fmt<W: fmt::Write>(&self, f: &mut fmt::Formatter<W>) -> fmt::Result {
+        let x = self.0;
+        if x.is_nan() {
+            return f.write_str("NaN");
+        }
+        if x.is_infinite() {
+            return f.write_str(if x < 0.0 { "-infinity" } else { "infinity" });
+        }
+        let bits = x.to_bits();
+        write!(f, "{bits:016x}")
     }
-    if x > 0.0 {
-        word(rt, words::INFINITY);
-        return;
-    }
-    if x < 0.0 {
-        word(rt, words::MINUS_INFINITY);
-        return;
-    }
-    word(rt, words::NAN);
 }
 
-pub(crate) fn infinity() -> f64 {
-    1.0 / 0.0
-}
+// Two of them.
+#[derive(Clone, Copy)]
+pub(crate) struct Pair(pub(crate) (f64, f64));
 
-pub(crate) fn nan() -> f64 {
-    0.0 / 0.0
+impl fmt::Display for Pair {
+    fn fmt<W: fmt::Write>(&self, f: &mut fmt::Formatter<W>) -> fmt::Result {
+        let (first, second) = self.0;
+        write!(f, "{} {}", Bits(first), Bits(second))
+    }
 }

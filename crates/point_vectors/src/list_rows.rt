@@ -1,28 +1,30 @@
 // A row of a list call in degrees or metres. Its outputs are the first elements of arrays of 4,097, all of which are
 // looked at after the call. It gives back its verdict.
 ghost use Rattle.std.specs.Prelude.{◌≡◌, ◌≤◌, length};
+ghost use Rattle.units.specs.Refusals.{number};
 ghost use Rattle.row_lists.specs.InnerRows.{row_of};
-ghost use Rattle.point_lists.specs.Lists.{ListCall};
+ghost use Rattle.point_lists.specs.Lists.{ListCall, list_answered};
 ghost use Rattle.pairs.specs.Pairs.{zero_float};
 ghost use Rattle.parameters.specs.ParameterSet.{etrs_laea};
 ghost use Rattle.judging.specs.InnerDoubles.{is_told};
-ghost use Rattle.point_vectors.specs.InnerLists.{room, numbers_of, marks_of, steps_of, outcome_of, untouched_digest, is_counted, is_refused};
+ghost use Rattle.point_vectors.specs.InnerRows.{is_forward};
+ghost use Rattle.point_vectors.specs.InnerLists.{room, WithinRoom, numbers_of, marks_of, steps_of, outcome, outcome_of, untouched_digest, is_counted, is_refused};
 
-use crate::names::name;
-use judging::doubles::{Digest, are_same, digest_of, is_told};
+use crate::point_rows::Direction;
+use judging::doubles::{Digest, digest_of, is_told};
 use parameters::Parameters;
-use point_lists::{ListAnswer, forward_list, inverse_list};
-use printing::words::word;
-use printing::{bits, refusal, size, verdict, words};
+use point_lists::{forward_list, inverse_list};
+use printing::{Shown, verdict};
+use std::fmt;
 use std::num::nearest_u64_to_f64;
-use units::both;
+use units::refusals::Refusal;
 
 // One more than a list call takes.
 const ROOM: usize = 4_097;
 
-type Numbers = [f64; 4097];
+type Numbers = [f64; ROOM];
 
-type Marks = [u8; 4097];
+type Marks = [u8; ROOM];
 
 // What the outputs hold before the call.
 pub(crate) const NUMBER: f64 = 7.5;
@@ -33,13 +35,13 @@ pub(crate) const MARK: u8 = 9;
 fn numbers(x: f64) -> Numbers
     ensures { (result ≡ numbers_of x) × (room ≡ length result) }
 {
-    [x; 4097]
+    [x; ROOM]
 }
 
 fn marks() -> Marks
     ensures { (result ≡ marks_of) × (room ≡ length result) }
 {
-    [MARK; 4097]
+    [MARK; ROOM]
 }
 
 // 0, step, 2 steps and so on.
@@ -47,54 +49,56 @@ fn steps(step: f64) -> Numbers
     ensures { (result ≡ steps_of step) × (room ≡ length result) }
 {
     let mut out = numbers(0.0);
-    let mut i = 0;
-    while i < ROOM {
+    for i in 0..ROOM {
         out[i] = nearest_u64_to_f64(i as u64) * step;
-        i += 1;
     }
     out
 }
 
+// The count of the points that are accepted, or the refusal of the whole list.
+pub(crate) type Answer = Result<u64, Refusal>;
+
 pub(crate) fn run(
     p: Parameters,
-    forward: bool,
+    direction: Direction,
     xs: &[f64],
     ys: &[f64],
     leading: &mut [f64],
     trailing: &mut [f64],
     marks: &mut [u8],
-) -> ListAnswer
-    ensures { ListCall p (row_of forward p) xs.now ys.now
+) -> Answer
+    ensures { ListCall p (row_of (is_forward direction) p) xs.now ys.now
         leading.old leading.new trailing.old trailing.new
-        marks.old marks.new result }
+        marks.old marks.new (list_answered result) }
 {
-    if forward {
-        return forward_list(p, xs, ys, leading, trailing, marks);
+    match direction {
+        Direction::Forward => forward_list(p, xs, ys, leading, trailing, marks),
+        Direction::Inverse => inverse_list(p, xs, ys, leading, trailing, marks),
     }
-    inverse_list(p, xs, ys, leading, trailing, marks)
+}
+
+// How many elements each of the five lists of a call lends.
+#[derive(Clone, Copy)]
+pub(crate) struct Lengths {
+    pub(crate) xs: usize,
+    pub(crate) ys: usize,
+    pub(crate) leading: usize,
+    pub(crate) trailing: usize,
+    pub(crate) marks: usize,
 }
 
 // What a call answered, and what it left in its outputs.
-#[derive(Drop)]
-pub(crate) struct Outcome {
-    pub(crate) answer: ListAnswer,
-    pub(crate) digest: Digest,
+#[derive(Clone, Copy)]
+struct Outcome {
+    answer: Answer,
+    digest: Digest,
 }
 
 // A call on lists of these lengths, the k-th point at k steps.
-fn call(
-    p: Parameters,
-    forward: bool,
-    a: usize,
-    b: usize,
-    c: usize,
-    d: usize,
-    e: usize,
-    x_step: f64,
-    y_step: f64,
-) -> Outcome
-    requires { (a ≤ room) × (b ≤ room) × (c ≤ room) × (d ≤ room) × (e ≤ room) }
-    ensures { result ≡ outcome_of p forward a b c d e x_step y_step }
+fn call(p: Parameters, direction: Direction, lengths: Lengths, x_step: f64, y_step: f64) -> Outcome
+    requires { WithinRoom lengths }
+    ensures { outcome result ≡ outcome_of p (is_forward direction)
+        lengths.xs lengths.ys lengths.leading lengths.trailing lengths.marks x_step y_step }
 {
     let xs = steps(x_step);
     let ys = steps(y_step);
@@ -103,12 +107,12 @@ fn call(
     let mut marks = marks();
     let answer = run(
         p,
-        forward,
-        &xs[..a],
-        &ys[..b],
-        &mut leading[..c],
-        &mut trailing[..d],
-        &mut marks[..e],
+        direction,
+        &xs[..lengths.xs],
+        &ys[..lengths.ys],
+        &mut leading[..lengths.leading],
+        &mut trailing[..lengths.trailing],
+        &mut marks[..lengths.marks],
     );
     Outcome {
         answer,
@@ -123,100 +127,94 @@ fn untouched() -> Digest
     digest_of(&numbers(NUMBER), &numbers(NUMBER), &marks())
 }
 
-fn show_answer(rt: &impl Print, answer: ListAnswer) {
-    match answer {
-        ListAnswer::Count(n) => {
-            word(rt, words::COUNT);
-            size(rt, n);
-        }
-        ListAnswer::Refused(n) => {
-            refusal(rt, n);
-        }
+// A count as a row shows it.
+#[derive(Clone, Copy)]
+struct Count(u64);
+
+impl fmt::Display for Count {
+    fn fmt<W: fmt::Write>(&self, f: &mut fmt::Formatter<W>) -> fmt::Result {
+        let count = self.0;
+        write!(f, "count {count}")
     }
 }
 
-// The row up to what was expected.
-fn asked(rt: &impl Print, k: usize, forward: bool, answer: ListAnswer) {
-    name(rt, k);
-    if forward {
-        word(rt, words::OF_DEGREES);
-    } else {
-        word(rt, words::OF_METRES);
+// A digest as a row shows it.
+#[derive(Clone, Copy)]
+struct Sums(Digest);
+
+impl fmt::Display for Sums {
+    fn fmt<W: fmt::Write>(&self, f: &mut fmt::Formatter<W>) -> fmt::Result {
+        let Digest { sum, sums } = self.0;
+        write!(f, "digest {sum:016x} {sums:016x}")
     }
-    show_answer(rt, answer);
-    word(rt, words::EXPECTED);
 }
 
-fn show_digest(rt: &impl Print, digest: Digest) {
-    word(rt, words::DIGEST);
-    bits(rt, digest.sum);
-    bits(rt, digest.sums);
+// The row up to its digests.
+fn show(rt: &impl Print, name: &str, direction: Direction, answer: Answer, right: Answer) {
+    let shown = Shown(answer.map(Count));
+    let expected = Shown(right.map(Count));
+    let _ = print!(rt; "{name} of {direction}: {shown}, expected {expected}");
 }
 
 // The row up to the count, and whether that is as expected.
 pub(crate) fn count_row(
     rt: &impl Print,
-    k: usize,
-    forward: bool,
-    answer: ListAnswer,
+    name: &str,
+    direction: Direction,
+    answer: Answer,
     right: u64,
 ) -> bool
-    ensures { result ≡ is_told answer 0 right }
+    ensures { result ≡ is_told (list_answered answer) 0 right }
 {
-    asked(rt, k, forward, answer);
-    show_answer(rt, ListAnswer::Count(right));
-    is_told(answer, 0, right)
+    show(rt, name, direction, answer, Ok(right));
+    is_told(answer, Ok(right))
 }
 
 // Lists of n points of ETRS-LAEA; all are accepted.
 pub(crate) fn list_row(
     rt: &impl Print,
-    k: usize,
-    forward: bool,
+    name: &str,
+    direction: Direction,
     n: usize,
     x_step: f64,
     y_step: f64,
     right: Digest,
 ) -> bool
     requires { n ≤ room }
-    ensures { result ≡ is_counted (outcome_of etrs_laea forward n n n n n x_step y_step) n right }
+    ensures { result ≡ is_counted (outcome_of etrs_laea (is_forward direction) n n n n n x_step y_step) n right }
 {
-    let p = Parameters::etrs_laea();
-    let found = call(p, forward, n, n, n, n, n, x_step, y_step);
-    let answer = found.answer;
-    let digest = found.digest;
-    let counted = count_row(rt, k, forward, answer, n as u64);
-    word(rt, words::THEN);
-    show_digest(rt, digest);
-    word(rt, words::EXPECTED);
-    show_digest(rt, right);
-    verdict(rt, both(counted, are_same(digest, right)))
+    let lengths = Lengths {
+        xs: n,
+        ys: n,
+        leading: n,
+        trailing: n,
+        marks: n,
+    };
+    let found = call(Parameters::ETRS_LAEA, direction, lengths, x_step, y_step);
+    let counted = count_row(rt, name, direction, found.answer, n as u64);
+    let _ = print!(rt; "; {}, expected {}", Sums(found.digest), Sums(right));
+    verdict(rt, counted && found.digest == right)
 }
 
 // Lists of these lengths, refused with the outputs as they were.
 pub(crate) fn list_refused(
     rt: &impl Print,
-    k: usize,
+    name: &str,
     p: Parameters,
-    forward: bool,
-    a: usize,
-    b: usize,
-    c: usize,
-    d: usize,
-    e: usize,
-    number: u8,
+    direction: Direction,
+    lengths: Lengths,
+    refusal: Refusal,
 ) -> bool
-    requires { (a ≤ room) × (b ≤ room) × (c ≤ room) × (d ≤ room) × (e ≤ room) }
-    ensures { result ≡ is_refused (outcome_of p forward a b c d e zero_float zero_float) number }
+    requires { WithinRoom lengths }
+    ensures { result ≡ is_refused (outcome_of p (is_forward direction)
+        lengths.xs lengths.ys lengths.leading lengths.trailing lengths.marks zero_float zero_float) (number refusal) }
 {
-    let found = call(p, forward, a, b, c, d, e, 0.0, 0.0);
-    let answer = found.answer;
-    let digest = found.digest;
-    asked(rt, k, forward, answer);
-    refusal(rt, number);
-    word(rt, words::UNTOUCHED);
+    let found = call(p, direction, lengths, 0.0, 0.0);
+    let right = Err(refusal);
+    show(rt, name, direction, found.answer, right);
+    let _ = print!(rt; ", outputs untouched");
     verdict(
         rt,
-        both(is_told(answer, number, 0), are_same(digest, untouched())),
+        is_told(found.answer, right) && found.digest == untouched(),
     )
 }

@@ -7,7 +7,6 @@ mod doubles;
 mod list_rows;
 mod lists;
 mod mixed;
-mod names;
 mod point_rows;
 mod sets;
 

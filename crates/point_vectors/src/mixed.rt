@@ -1,113 +1,120 @@
 // Lists with every refusal of a point in them, element by element.
-ghost use Rattle.std.specs.Prelude.{◌≡◌, ◌<◌};
-ghost use Rattle.judging.specs.InnerDoubles.{alike};
-ghost use Rattle.row_lists.specs.InnerRows.{row_at};
+ghost use Rattle.std.specs.Prelude.{◌≡◌};
+ghost use Rattle.judging.specs.InnerDoubles.{alike, row_told};
+ghost use Rattle.point_vectors.specs.InnerRows.{element_row};
 
-use crate::doubles::{infinity, nan};
+use crate::doubles::Pair;
 use crate::list_rows::{MARK, NUMBER, count_row, run};
-use crate::names;
-use crate::point_rows::{FORWARD, INVERSE, compare};
-use pairs::Row;
+use crate::point_rows::Answer;
+use crate::point_rows::Direction::{self, Forward, Inverse};
+use judging::doubles::have_same_bits;
 use parameters::Parameters;
-use printing::words::word;
-use printing::{size, verdict, words};
-use units::refusals::{NOT_FINITE, OUT_OF_LIMITS, TOO_FAR};
+use printing::verdict;
+use std::fmt;
+use units::refusals::Refusal;
 
-type Numbers = [f64; 8];
+// An element of the lists that a call fills: its mark, 0 or a refusal number, and its two values.
+#[derive(Clone, Copy)]
+struct Element {
+    mark: u8,
+    values: (f64, f64),
+}
 
-// The row at a place of three lists.
-fn row_at(i: usize, marks: &[u8; 8], leading: &Numbers, trailing: &Numbers) -> Row
-    requires { i < 8 }
-    ensures { result ≡ row_at i leading.now trailing.now marks.now }
-{
-    Row {
-        mark: marks[i],
-        first: leading[i],
-        second: trailing[i],
+impl Element {
+    // As a call fills the lists for this answer.
+    fn of(answer: Answer) -> Element
+        ensures { element_row result ≡ row_told answer }
+    {
+        match answer {
+            Ok(values) => Element { mark: 0, values },
+            Err(refusal) => Element {
+                mark: refusal.number(),
+                values: (0.0, 0.0),
+            },
+        }
+    }
+
+    // Whether it is this one, in every bit.
+    fn is(self, right: Element) -> bool
+        ensures { result ≡ alike (element_row self) (element_row right) }
+    {
+        self.mark == right.mark && have_same_bits(self.values, right.values)
     }
 }
 
-fn element(rt: &impl Print, place: u64, found: Row, right: Row) -> bool
-    ensures { result ≡ alike found right }
-{
-    word(rt, words::ELEMENT);
-    size(rt, place);
-    compare(rt, found, right)
-}
-
-// Each element found beside the one expected. Both lists have the same marks.
-fn elements(
-    rt: &impl Print,
-    marks: &[u8; 8],
-    leading: &Numbers,
-    trailing: &Numbers,
-    right_leading: &Numbers,
-    right_trailing: &Numbers,
-) {
-    let right_marks = [
-        0,
-        NOT_FINITE,
-        OUT_OF_LIMITS,
-        TOO_FAR,
-        0,
-        NOT_FINITE,
-        OUT_OF_LIMITS,
-        NOT_FINITE,
-    ];
-    let mut i = 0;
-    while i < 8 {
-        let found = row_at(i, marks, leading, trailing);
-        let right = row_at(i, &right_marks, right_leading, right_trailing);
-        element(rt, i as u64, found, right);
-        i += 1;
+impl fmt::Display for Element {
+    fn fmt<W: fmt::Write>(&self, f: &mut fmt::Formatter<W>) -> fmt::Result {
+        match *self {
+            Element { mark: 0, values } => write!(f, "{}", Pair(values)),
+            Element { mark, .. } => write!(f, "refused {mark}"),
+        }
     }
 }
 
-fn list(
-    rt: &impl Print,
-    forward: bool,
-    xs: &Numbers,
-    ys: &Numbers,
-    right_leading: &Numbers,
-    right_trailing: &Numbers,
-) {
+fn element_line(rt: &impl Print, place: usize, found: Element, right: Answer) -> bool
+    ensures { result ≡ alike (element_row found) (row_told right) }
+{
+    let right = Element::of(right);
+    let _ = print!(rt; "   element {place}: {found}, expected {right}");
+    verdict(rt, found.is(right))
+}
+
+fn list(rt: &impl Print, direction: Direction, xs: &[f64; 8], ys: &[f64; 8], right: [Answer; 8]) {
     let mut leading = [NUMBER; 8];
     let mut trailing = [NUMBER; 8];
     let mut marks = [MARK; 8];
-    let p = Parameters::etrs_laea();
-    let found = run(p, forward, xs, ys, &mut leading, &mut trailing, &mut marks);
-    verdict(rt, count_row(rt, names::MIXED_LIST, forward, found, 2));
-    elements(
-        rt,
-        &marks,
-        &leading,
-        &trailing,
-        right_leading,
-        right_trailing,
+    let p = Parameters::ETRS_LAEA;
+    let found = run(
+        p,
+        direction,
+        xs,
+        ys,
+        &mut leading,
+        &mut trailing,
+        &mut marks,
     );
+    verdict(rt, count_row(rt, "mixed list", direction, found, 2));
+    let values = leading.into_iter().zip(trailing);
+    let elements = marks.into_iter().zip(values).zip(right);
+    for (place, ((mark, values), right)) in elements.enumerate() {
+        element_line(rt, place, Element { mark, values }, right);
+    }
+}
+
+// What is expected of the eight points of either list.
+fn expected(first: (f64, f64), fifth: (f64, f64)) -> [Answer; 8] {
+    [
+        Ok(first),
+        Err(Refusal::NotFinite),
+        Err(Refusal::OutOfLimits),
+        Err(Refusal::TooFar),
+        Ok(fifth),
+        Err(Refusal::NotFinite),
+        Err(Refusal::OutOfLimits),
+        Err(Refusal::NotFinite),
+    ]
 }
 
 pub(crate) fn of_degrees(rt: &impl Print) {
-    let xs = [52.0, nan(), 91.0, -52.0, 80.0, 52.0, 52.0, 91.0];
+    let xs = [52.0, f64::NAN, 91.0, -52.0, 80.0, 52.0, 52.0, 91.0];
     let ys = [
         10.0,
         10.0,
         10.0,
         -170.0,
         -180.0,
-        infinity(),
+        f64::INFINITY,
         180.00000000000003,
-        nan(),
+        f64::NAN,
     ];
-    let leading = [4_321_000.0, 0.0, 0.0, 0.0, 4_532_329.67, 0.0, 0.0, 0.0];
-    let trailing = [3_210_000.0, 0.0, 0.0, 0.0, 8_390_463.61, 0.0, 0.0, 0.0];
-    list(rt, FORWARD, &xs, &ys, &leading, &trailing);
+    let right = expected((4_321_000.0, 3_210_000.0), (4_532_329.67, 8_390_463.61));
+    list(rt, Forward, &xs, &ys, right);
 }
 
 pub(crate) fn of_metres(rt: &impl Print) {
     let xs = [
         4_321_000.0,
-        nan(),
+        f64::NAN,
         -50_000_000.00000001,
         50_000_000.0,
         3_962_799.45,
@@ -121,11 +128,10 @@ pub(crate) fn of_metres(rt: &impl Print) {
         0.0,
         0.0,
         2_999_718.85,
-        -infinity(),
+        f64::NEG_INFINITY,
         50_000_000.00000001,
-        nan(),
+        f64::NAN,
     ];
-    let leading = [52.0, 0.0, 0.0, 0.0, 50.0, 0.0, 0.0, 0.0];
-    let trailing = [10.0, 0.0, 0.0, 0.0, 5.000000277777778, 0.0, 0.0, 0.0];
-    list(rt, INVERSE, &xs, &ys, &leading, &trailing);
+    let right = expected((52.0, 10.0), (50.0, 5.000000277777778));
+    list(rt, Inverse, &xs, &ys, right);
 }

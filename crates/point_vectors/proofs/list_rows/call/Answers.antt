@@ -3,6 +3,7 @@
 use Rattle.std.proofs.Common.{sym, ◌∙◌, length-take-le, arith}
 use lib.Ieee.{of_bits}
 use lib.Seq.{length_front}
+use Rattle.point_vectors.specs.InnerRows.{is_forward}
 use Rattle.point_vectors.proofs.OutcomeLaws.{outcome_is}
 use Rattle.point_vectors.proofs.list_rows.call.Goals as goal
 
@@ -24,19 +25,20 @@ slice_bounds-run-end-5 c = sym (length-take-le _ _ (omega (arith, c.marks-marks.
 
 -- a part that was lent is as long as it was, so its array is
 pub slice_bounds-digest_of-end : goal.slice_bounds-digest_of-end
-slice_bounds-digest_of-end c = c.numbers-leading.ensures.1 ∙ sym (length_front c.numbers-leading.result c.run-answer.new.leading c.args.c c.run-answer.auto.leading)
+slice_bounds-digest_of-end c = c.numbers-leading.ensures.1 ∙ sym (length_front c.numbers-leading.result c.run-answer.new.leading c.args.lengths.leading c.run-answer.auto.leading)
 
 pub slice_bounds-digest_of-end-2 : goal.slice_bounds-digest_of-end-2
-slice_bounds-digest_of-end-2 c = c.numbers-trailing.ensures.1 ∙ sym (length_front c.numbers-trailing.result c.run-answer.new.trailing c.args.d c.run-answer.auto.trailing)
+slice_bounds-digest_of-end-2 c = c.numbers-trailing.ensures.1 ∙ sym (length_front c.numbers-trailing.result c.run-answer.new.trailing c.args.lengths.trailing c.run-answer.auto.trailing)
 
 pub slice_bounds-digest_of-end-3 : goal.slice_bounds-digest_of-end-3
-slice_bounds-digest_of-end-3 c = c.marks-marks.ensures.1 ∙ sym (length_front c.marks-marks.result c.run-answer.new.marks c.args.e c.run-answer.auto.marks)
+slice_bounds-digest_of-end-3 c = c.marks-marks.ensures.1 ∙ sym (length_front c.marks-marks.result c.run-answer.new.marks c.args.lengths.marks c.run-answer.auto.marks)
 
 pub returns : goal.returns
 unfolding of_bits
 returns c =
     let a = c.args in
-    outcome_is a.p a.forward a.a a.b a.c a.d a.e a.x_step a.y_step
+    let n = a.lengths in
+    outcome_is a.p (is_forward a.direction) n.xs n.ys n.leading n.trailing n.marks a.x_step a.y_step
     c.steps-xs.ensures.0
     c.steps-ys.ensures.0
     c.numbers-leading.ensures.0

@@ -1,6 +1,6 @@
 -- `list_rows::steps` meets its contract: after i turns the first i elements are those of the definition, and after all turns all are.
 -- Assumes nothing.
-use Rattle.std.proofs.Common.{ℕ, length, sym, ap, ◌∙◌, le_antisymm, arith, rules}
+use Rattle.std.proofs.Common.{◌≡◌, ℕ, ◌<◌, length, sym, ap, ◌∙◌, le_antisymm, arith, rules}
 use lib.Ieee.{Float, nan, binary64, mul}
 use Rattle.row_lists.proofs.ListLaws.{filled, filled_more, filled_all}
 use Rattle.point_vectors.specs.InnerLists.{room, steps_of}
@@ -12,10 +12,10 @@ loop-i-preserved c =
     let i = c.loop-i.i in
     let step = c.args.step in
     let so_far = c.loop-i.invariant in
-    let element = ap (λ (k : Float). mul binary64 k step) c.nearest_u64_to_f64.ensures ∙ step_at room i step nan c.loop-i-test.true in (
-      search rules,
-      so_far.1,
-      filled_more i (steps_of step) c.numbers-out.result c.loop-i.out nan _ (steps_length 0 room step ∙ so_far.1) (omega arith) so_far.2 element,
+    let within : i < room = search rules in
+    let element = ap (λ (k : Float). mul binary64 k step) c.nearest_u64_to_f64.ensures ∙ step_at room i step nan within in (
+      so_far.0,
+      filled_more i (steps_of step) c.numbers-out.result c.loop-i.out nan _ (steps_length 0 room step ∙ so_far.0) (omega arith) so_far.1 element,
     )
 
 pub returns : goal.returns
@@ -23,6 +23,6 @@ returns c =
     let step = c.args.step in
     let out₀ = c.numbers-out.result in
     let inv = c.loop-i.invariant in
-    let end = le_antisymm inv.0 c.loop-i-test.false ∙ inv.1 in
-    let all = inv.2 ∙ ap (λ (k : ℕ). filled k (steps_of step) out₀) end ∙ filled_all (steps_of step) out₀ (steps_length 0 room step ∙ inv.1) in
+    let end : c.loop-i.i ≡ length out₀ = le_antisymm c.loop-i.auto.i-end c.loop-i-test.false ∙ inv.0 in
+    let all = inv.1 ∙ ap (λ (k : ℕ). filled k (steps_of step) out₀) end ∙ filled_all (steps_of step) out₀ (steps_length 0 room step ∙ inv.0) in
     (all, sym (ap length all ∙ steps_length 0 room step))
