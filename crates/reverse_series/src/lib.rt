@@ -4,14 +4,13 @@
 ghost use Rattle.std.specs.Prelude.{◌≡◌, ◌<◌, ◌≤◌, nat_abs, ◌+ℤ◌, ◌*ℤ◌};
 ghost use Rattle.integers.specs.Near.{near as nearOf};
 ghost use Rattle.units.specs.Units.{right_angle};
-ghost use Rattle.sine_table.specs.Table.{IsTable};
 ghost use Rattle.constants.specs.Derived.{to_mas};
 ghost use Rattle.reverse_series.specs.InnerSeries.{coefficients_of, SmallCoefficients, series, reversed};
 
 use billionths::product;
 use integers::near;
 use latitudes::{Authalic, Geodetic};
-use sine_table::Table;
+use sine_table::SineTable;
 use trig::sine;
 use units::{UNIT, UNIT_DIVISOR};
 
@@ -19,7 +18,7 @@ use units::{UNIT, UNIT_DIVISOR};
 const RADIAN: i64 = 206_264_806;
 
 // The coefficients of sin 2β, sin 4β and sin 6β, in mas.
-#[derive(Clone, Copy)]
+#[derive(Clone, Copy, Debug, PartialEq, Eq)]
 pub struct Coefficients {
     pub two: i64,
     pub four: i64,
@@ -57,22 +56,22 @@ fn coefficients_of(e2: i64) -> Coefficients
 }
 
 // The series with one rounding.
-fn sum(t: &Table, k: Coefficients, beta: i64) -> i64
-    requires { IsTable t.now × SmallCoefficients k × (nat_abs beta ≤ right_angle) }
+fn sum(t: &SineTable, k: Coefficients, beta: i64) -> i64
+    requires { SmallCoefficients k × (nat_abs beta ≤ right_angle) }
     ensures { result ≡ series k beta }
 {
-    let two = k.two;
-    let four = k.four;
-    let six = k.six;
     let s2 = sine(t, 2 * beta);
     let s4 = sine(t, 4 * beta);
     let s6 = sine(t, 6 * beta);
-    near(UNIT * beta + two * s2 + four * s4 + six * s6, UNIT_DIVISOR)
+    near(
+        UNIT * beta + k.two * s2 + k.four * s4 + k.six * s6,
+        UNIT_DIVISOR,
+    )
 }
 
 // The geodetic latitude of an authalic one by the series.
-pub fn latitude(t: &Table, e2: i64, beta: Authalic) -> Geodetic
-    requires { IsTable t.now × (nat_abs e2 ≤ 10_000_000) × (nat_abs beta.0 ≤ right_angle) }
+pub fn latitude(t: &SineTable, e2: i64, beta: Authalic) -> Geodetic
+    requires { (nat_abs e2 ≤ 10_000_000) × (nat_abs beta.0 ≤ right_angle) }
     ensures { result ≡ reversed e2 beta }
 {
     Geodetic(sum(t, coefficients_of(e2), beta.0))
