@@ -22,7 +22,10 @@ pub extern "C" fn laea1_forward_whole(
 ) -> u8
     ensures { AnswersWhole (forward_told (parameters_of set) (record { 0 = latitude }) longitude) out.old out.new result }
 {
-    answer(forward(Parameters::from(set), Geodetic(latitude), longitude), out)
+    answer(
+        forward(Parameters::from(set), Geodetic(latitude), longitude),
+        out,
+    )
 }
 
 // cm to mas: latitude and longitude.
