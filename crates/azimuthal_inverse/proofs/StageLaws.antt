@@ -16,10 +16,9 @@ use Rattle.constants.specs.Derived.{constants_of}
 use Rattle.constants.specs.InnerPrepared.{BoundedCentre}
 use Rattle.constants.proofs.ConstantsLaws.{Sound, sound, sound_as}
 use Rattle.azimuthal_forward.specs.Steps.{near_enough}
-use Rattle.sphere_points.specs.declared.SpherePoint.{SpherePoint}
+use Rattle.sphere_points.specs.Points.{Point}
 use Rattle.sphere_points.specs.Sphere.{G}
-use Rattle.sphere_points.specs.InnerSizes.{SmallPoint}
-use Rattle.sphere_points.proofs.SphereLaws.{K-near, G-least, G-most, point_sized}
+use Rattle.sphere_points.proofs.SphereLaws.{K-near, G-least, G-most}
 use Rattle.azimuthal_inverse.specs.declared.Reduced.{Reduced}
 use Rattle.azimuthal_inverse.specs.Answer.{GeodeticAnswer}
 use Rattle.azimuthal_inverse.specs.InnerStages.{PlanePoint}
@@ -131,7 +130,7 @@ module _ (p : Parameters) {k : Constants} (ok : set_refusal p ≡ 0) (own : k �
 
   -- the answer a, of the point of the plane q for E and N and of its point of the sphere s
   pub stages_are :
-      (E N : ℤ) {q : PlanePoint} {r : Reduced} {s : SpherePoint} {a : GeodeticAnswer} →
+      (E N : ℤ) {q : PlanePoint} {r : Reduced} {s : Point} {a : GeodeticAnswer} →
       q ≡ plane_point_of p k E N →
       r ≡ q.reduced →
       s ≡ sphere_point_of k r →
@@ -147,7 +146,3 @@ module _ {r : Reduced} (small : SmallReduced r) where
       let least = small.versed_least in
       let most = small.versed_most in
       rw e (≤ℤ-trans (pos-≤ℤ zero-le) (G-least r.versed least most), le_trans (G-most r.versed least most) (lit≤ tt))
-
-  pub sphere_point_small : {k : Constants} → BoundedCentre k → {s : SpherePoint} → s ≡ sphere_point_of k r → SmallPoint s
-  sphere_point_small centre e =
-      rw e (point_sized r.versed small.versed_least small.versed_most _ centre r.x r.y small.x_size small.y_size)

@@ -10,7 +10,7 @@ use Rattle.parameters.specs.ParameterSet.{set_refusal}
 use Rattle.constants.specs.declared.Constants.{Constants}
 use Rattle.constants.specs.Derived.{constants_of}
 use Rattle.azimuthal_forward.specs.Steps.{near_enough}
-use Rattle.sphere_points.specs.declared.SpherePoint.{SpherePoint}
+use Rattle.sphere_points.specs.Points.{Point}
 use Rattle.sphere_points.specs.Sphere.{G, point_of, latitude_of, longitude_of}
 use Rattle.azimuthal_forward.specs.declared.PlanePosition.{PlanePosition}
 use Rattle.azimuthal_inverse.specs.declared.Reduced.{Reduced}
@@ -22,7 +22,7 @@ use Rattle.latitudes.specs.declared.AuthalicSeries.{AuthalicSeries}
 use Rattle.geodetic_search.specs.Reverse.{geodetic}
 
 -- the position of a point of the sphere
-abbrev pub position_of : AuthalicSeries → ℤ → SpherePoint → GeodeticAnswer
+abbrev pub position_of : AuthalicSeries → ℤ → Point → GeodeticAnswer
 position_of series lon0 s = Position (geodetic series (latitude_of s)) (wrapped (lon0 +ℤ longitude_of s))
 
 -- The constants of some accepted set.
@@ -72,10 +72,10 @@ pub record SmallReduced (r : Reduced) : Type 0 where
 
 -- ---- the point of the sphere, and the answer
 
-abbrev pub sphere_point_of : Constants → Reduced → SpherePoint
+abbrev pub sphere_point_of : Constants → Reduced → Point
 sphere_point_of k r = point_of k r.x r.y r.versed
 
-unfoldable pub answer_of : Parameters → Constants → PlanePoint → SpherePoint → GeodeticAnswer
+unfoldable pub answer_of : Parameters → Constants → PlanePoint → Point → GeodeticAnswer
 answer_of p k q s = answered Refused q.refusal (cond q.origin (Position p.lat0 p.lon0) (position_of k.series p.lon0 s))
 
 -- the inverse answer for a position

@@ -4,7 +4,7 @@ use Rattle.integers.specs.Near.{near}
 use Rattle.units.specs.Units.{U}
 use Rattle.units.specs.Spans.{within, same}
 use Rattle.constants.specs.declared.Constants.{Constants}
-use Rattle.sphere_points.specs.declared.SpherePoint.{SpherePoint}
+use Rattle.sphere_points.specs.Points.{Point}
 use Rattle.sphere_points.specs.Sphere.{versine_of, point_of}
 
 -- "Both zero"
@@ -27,5 +27,5 @@ Y k dN = near (dN *ℤ U) (nat_abs k.rn)
 unfoldable pub K : Constants → ℤ → ℤ → ℤ
 K k dE dN = versine_of (X k dE) (Y k dN)
 
-unfoldable pub found : Constants → ℤ → ℤ → SpherePoint
+unfoldable pub found : Constants → ℤ → ℤ → Point
 found k dE dN = point_of k (X k dE) (Y k dN) (K k dE dN)

@@ -6,7 +6,7 @@ ghost use Rattle.integers.specs.Root.{root};
 ghost use Rattle.constants.specs.InnerPrepared.{BoundedCentre};
 ghost use Rattle.azimuthal_forward.specs.Steps.{H as scale_of};
 ghost use Rattle.sphere_points.specs.Sphere.{G};
-ghost use Rattle.sphere_points.specs.InnerSizes.{SmallPoint, squared_radius};
+ghost use Rattle.sphere_points.specs.InnerSizes.{squared_radius};
 ghost use Rattle.azimuthal_inverse.specs.Steps.{at_origin, on_map};
 ghost use Rattle.azimuthal_inverse.specs.Answer.{Position, geodetic_answer, geodetic_told, inverse_of, inverse_told};
 ghost use Rattle.azimuthal_inverse.specs.InnerStages.{position_of, OfAcceptedSet, point_answer, reduced_of, plane_point_of, SmallReduced, sphere_point_of, answer_of, inverse_at};
@@ -122,7 +122,7 @@ fn sphere_point(k: Constants, r: Reduced, h: u64) -> SpherePoint
 // The latitude and longitude of a point of the sphere, whose distance from the axis is `radius`. The search for
 // the geodetic latitude comes last: neither angle waits for it.
 fn position(projection: &Projection, s: SpherePoint, radius: u64) -> GeodeticPosition
-    requires { SmallPoint s × (radius ≡ root (squared_radius s)) }
+    requires { radius ≡ root (squared_radius s) }
     ensures { Position result.latitude result.longitude ≡ position_of projection.now.constants.series projection.now.set.lon0 s }
 {
     let delta = longitude_of(projection.table, s);
@@ -140,7 +140,7 @@ fn answer(
     s: SpherePoint,
     radius: u64,
 ) -> Result<GeodeticPosition, Refusal>
-    requires { SmallPoint s × (radius ≡ root (squared_radius s)) }
+    requires { radius ≡ root (squared_radius s) }
     ensures { geodetic_answer result ≡ answer_of projection.now.set projection.now.constants (point_answer q) s }
 {
     match q? {

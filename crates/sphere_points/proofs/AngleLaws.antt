@@ -19,7 +19,7 @@ use Rattle.integers.proofs.Squares.{root_most}
 use Rattle.units.specs.Units.{right_angle, half_turn}
 use Rattle.billionths.proofs.Calls.{back}
 use Rattle.angles.specs.Angle.{under, angle}
-use Rattle.sphere_points.specs.declared.SpherePoint.{SpherePoint}
+use Rattle.sphere_points.specs.Points.{Point}
 use Rattle.sphere_points.specs.Sphere.{latitude_of, longitude_of}
 use Rattle.sphere_points.specs.InnerSizes.{SmallPoint, squared_radius}
 
@@ -34,14 +34,14 @@ module _ (z : ℤ) {n : ℕ} (small : nat_abs z ≤ n) (room : n < 2 ^ 63) where
   sign_is = ap (λ (z : ℤ). lt_z z (pos 0)) (kept z small room)
 
 -- root(east² + f²): how far the point is from the axis
-abbrev pub radius : SpherePoint → ℕ
+abbrev pub radius : Point → ℕ
 radius s = root (squared_radius s)
 
 -- the square of that distance, from the sizes of east and f
-pub sum_of_squares : (s : SpherePoint) → nat_abs s.east * nat_abs s.east + nat_abs s.f * nat_abs s.f ≡ squared_radius s
+pub sum_of_squares : (s : Point) → nat_abs s.east * nat_abs s.east + nat_abs s.f * nat_abs s.f ≡ squared_radius s
 sum_of_squares s = rw (square_abs s.east, square_abs s.f)
 
-module _ {s : SpherePoint} (small : SmallPoint s) where
+module _ {s : Point} (small : SmallPoint s) where
   pub squares_size : nat_abs s.east * nat_abs s.east + nat_abs s.f * nat_abs s.f ≤ 13_000_000_000_000_000_000
   squares_size = omega (arith, mul-le-mul small.east_size small.east_size, mul-le-mul small.f_size small.f_size)
 
@@ -63,7 +63,7 @@ pub signed_size : (b : Bool) (n : ℕ) {m : ℕ} → n ≤ m → nat_abs (signed
 signed_size true n h = rw (abs_neg (pos n)) h
 signed_size false n h = h
 
-pub latitude_size : (s : SpherePoint) → nat_abs (latitude_of s).0 ≤ right_angle
+pub latitude_size : (s : Point) → nat_abs (latitude_of s).0 ≤ right_angle
 unfolding latitude_of
 latitude_size s = signed_size (lt_z s.z (pos 0)) _ (angle_size (radius s) (nat_abs s.z))
 
@@ -72,16 +72,16 @@ abbrev pub turned : Bool → ℕ → ℕ
 turned far n = cond far (half_turn - n) n
 
 -- |Δ|
-abbrev pub turn : SpherePoint → ℕ
+abbrev pub turn : Point → ℕ
 turn s = turned (lt_z s.f (pos 0)) (angle (nat_abs s.f) (nat_abs s.east))
 
-pub turn_size : (s : SpherePoint) → turn s ≤ half_turn
+pub turn_size : (s : Point) → turn s ≤ half_turn
 turn_size s = at (lt_z s.f (pos 0)) _ (angle_size (nat_abs s.f) (nat_abs s.east))
   where
     at : (far : Bool) (n : ℕ) → n ≤ right_angle → turned far n ≤ half_turn
     at true n h = omega arith
     at false n h = omega arith
 
-pub longitude_size : (s : SpherePoint) → nat_abs (longitude_of s) ≤ half_turn
+pub longitude_size : (s : Point) → nat_abs (longitude_of s) ≤ half_turn
 unfolding longitude_of
 longitude_size s = signed_size (lt_z s.east (pos 0)) _ (turn_size s)

@@ -8,7 +8,7 @@ ghost use Rattle.units.specs.Units.{right_angle, half_turn};
 ghost use Rattle.constants.specs.InnerPrepared.{BoundedCentre};
 ghost use Rattle.azimuthal_forward.specs.Steps.{H as scale_of};
 ghost use Rattle.sphere_points.specs.Sphere.{versine_of, G, point_of, latitude_of, longitude_of};
-ghost use Rattle.sphere_points.specs.InnerSizes.{SmallPoint, squared_radius};
+ghost use Rattle.sphere_points.specs.InnerSizes.{squared_radius};
 
 use angles::angle;
 use billionths::{difference, product, sum};
@@ -16,6 +16,7 @@ use constants::Constants;
 use integers::{magnitude, near, signed};
 use latitudes::Authalic;
 use sine_table::SineTable;
+use std::marker::Model;
 use units::{HALF_TURN, UNIT};
 
 // 2 U: the versed sine of the point opposite to the centre.
@@ -24,12 +25,26 @@ pub const TWO_UNITS: i64 = 2_000_000_000;
 const TWO_UNITS_DIVISOR: u64 = 2_000_000_000;
 
 // A point of the unit sphere in billionths, by document 01's names: east of the centre's meridian,
-// z along the axis, f outwards at the centre's longitude.
+// z along the axis, f outwards at the centre's longitude. Each is small, which keeps the code within
+// 64 bits.
 #[derive(Clone, Copy)]
 pub struct SpherePoint {
-    pub east: i64,
-    pub z: i64,
-    pub f: i64,
+    east: i64,
+    z: i64,
+    f: i64,
+}
+
+impl Model for SpherePoint {
+    ghost use Rattle.sphere_points.specs.Points.{Point};
+    ghost use Rattle.sphere_points.specs.InnerSizes.{SmallPoint};
+
+    ghost Value = { Point };
+
+    ghost view = { λ s. record { east = s.east; z = s.z; f = s.f } };
+
+    ghost invariant = { λ s. SmallPoint (record { east = s.east; z = s.z; f = s.f }) };
+
+    ghost inverse = { λ s. record { east = s.east; z = s.z; f = s.f } };
 }
 
 // K = near((X² + Y²)/(2U)): the versed sine of the distance from the centre.
@@ -59,7 +74,6 @@ pub fn point(k: Constants, x: i64, y: i64, versed: i64, h: u64) -> SpherePoint
 
 // east² + f²: the square of a point's distance from the axis.
 pub fn squared_radius(s: SpherePoint) -> u64
-    requires { SmallPoint s }
     ensures { result ≡ squared_radius s }
 {
     let east = magnitude(s.east);
@@ -69,7 +83,7 @@ pub fn squared_radius(s: SpherePoint) -> u64
 
 // β of a point whose distance from the axis is `radius`.
 pub fn latitude_of(t: &SineTable, s: SpherePoint, radius: u64) -> Authalic
-    requires { SmallPoint s × (radius ≡ root (squared_radius s)) }
+    requires { radius ≡ root (squared_radius s) }
     ensures { result ≡ latitude_of s }
 {
     let z = s.z;
@@ -87,7 +101,6 @@ fn turned(far: bool, size: u64) -> u64
 
 // Δ of a point: |Δ| is taken from 180° where f is negative, then gets the sign of east.
 pub fn longitude_of(t: &SineTable, s: SpherePoint) -> i64
-    requires { SmallPoint s }
     ensures { result ≡ longitude_of s }
 {
     let east = s.east;

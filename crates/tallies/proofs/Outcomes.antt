@@ -6,7 +6,7 @@ use Prim.Native.Nat.{ℕ, zero, suc, ◌≤◌, ◌<◌}
 use native.Mathlib.Omega.{arith}
 use lib.IntN.{ℤ}
 use lib.Dec.{ltb}
-use lib.ListN.{length, set, get_or, replicate, get_or-eq_default}
+use lib.ListN.{length, set, get_or, replicate}
 use lib.Seq.{set_out}
 use mir.Facts.{to_z-of_z}
 use borrow.Author.Tests.{lt-ltb, le-ltb, ltb-true, ltb-false}
@@ -23,7 +23,9 @@ use Rattle.slots.specs.declared.LoopCell.{LoopCell}
 use Rattle.slots.specs.declared.Slot.{Slot}
 use Rattle.slots.specs.Slots.{slot_count, empty_slot, holds, index_of, index_in, slot_of, full, with_reading}
 use Rattle.slots.proofs.Searching.{position_is}
+use Rattle.slots.proofs.Places.{own_slot, no_slot}
 use Rattle.shares.specs.Shares.{place_of, new_slot}
+use Rattle.shares.proofs.Places.{own_place, new_place}
 use Rattle.tallies.specs.declared.Tally.{Tally}
 use Rattle.tallies.specs.Tallies.{NextTally, Done, Refused, Unread, tally_answer}
 use Rattle.tallies.specs.Tallies.{side_refusal, named_refusal, slot_refusal, add_refusal, next, made, added, cleared, sums_in, read_from}
@@ -50,29 +52,25 @@ module _ {A : Type 0} (xs : List A) (i : ℕ) where
 
 module _ (cell : LoopCell) (slots : List Slot) where
   -- the index of the cell's slot, as the search gives it
-  pub own_place : (k : ℕ) → position (holds cell) slots ≡ Some k → (index_of (holds cell) slots ≡ k) × (k < length slots)
-  own_place k e = in_list slots (index_of (holds cell) slots) k (sym (position_is (holds cell) slots) ∙ e)
+  pub own_index : (k : ℕ) → position (holds cell) slots ≡ Some k → (index_of (holds cell) slots ≡ k) × (k < length slots)
+  own_index k e = in_list slots (index_of (holds cell) slots) k (sym (position_is (holds cell) slots) ∙ e)
 
-  pub no_place : position (holds cell) slots ≡ None → length slots ≤ index_of (holds cell) slots
-  no_place e = past_list slots (index_of (holds cell) slots) (sym (position_is (holds cell) slots) ∙ e)
+  pub no_index : position (holds cell) slots ≡ None → length slots ≤ index_of (holds cell) slots
+  no_index e = past_list slots (index_of (holds cell) slots) (sym (position_is (holds cell) slots) ∙ e)
 
-  pub slot_held : (k : ℕ) → position (holds cell) slots ≡ Some k → get_or slots k empty_slot ≡ slot_of cell slots
-  unfolding slot_of
-  slot_held k e = rw (own_place k e).0
+  pub slot_held : (k : ℕ) → position (holds cell) slots ≡ Some k → slot_of cell slots ≡ get_or slots k empty_slot
+  slot_held k e = own_slot cell slots k (sym (own_index k e).0)
 
-  pub none_held : position (holds cell) slots ≡ None → empty_slot ≡ slot_of cell slots
-  unfolding slot_of
-  none_held e = sym (get_or-eq_default slots empty_slot (no_place e))
+  pub none_held : position (holds cell) slots ≡ None → slot_of cell slots ≡ empty_slot
+  none_held e = no_slot cell slots (index_of (holds cell) slots) refl (no_index e)
 
   pub place_held : (k : ℕ) → position (holds cell) slots ≡ Some k → Some k ≡ index_in slots (place_of cell slots)
-  unfolding place_of
   place_held k e =
-      let own = own_place k e in
-      rw (own.0, lt-ltb k (length slots) own.1, lt-ltb k (length slots) own.1)
+      let own = own_index k e in
+      rw (own_place cell slots k (sym own.0) own.1, lt-ltb k (length slots) own.1)
 
   pub place_new : position (holds cell) slots ≡ None → index_in slots (new_slot cell.loop_number slots) ≡ index_in slots (place_of cell slots)
-  unfolding place_of
-  place_new e = rw (le-ltb (index_of (holds cell) slots) (length slots) (no_place e))
+  place_new e = rw (new_place cell slots (index_of (holds cell) slots) refl (no_index e))
 
 -- ---- the answer by its number
 
@@ -174,11 +172,11 @@ module _ (tally : Tally) (cell : LoopCell) where
         slot ≡ empty_slot →
         done_with (set tally.slots at slot) tally ≡ cleared tally cell
     unfolding cleared
-    clear_done at slot e slot_is = rw (← good-cell, (own_place cell tally.slots at e).0, slot_is)
+    clear_done at slot e slot_is = rw (← good-cell, (own_index cell tally.slots at e).0, slot_is)
 
     pub clear_absent : position (holds cell) tally.slots ≡ None → done_with tally.slots tally ≡ cleared tally cell
     unfolding cleared
-    clear_absent e = rw (← good-cell, set_out tally.slots (index_of (holds cell) tally.slots) empty_slot (no_place cell tally.slots e))
+    clear_absent e = rw (← good-cell, set_out tally.slots (index_of (holds cell) tally.slots) empty_slot (no_index cell tally.slots e))
 
   -- ---- reading
 

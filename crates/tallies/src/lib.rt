@@ -84,7 +84,7 @@ fn check_name(side: i64, cell: LoopCell) -> Result<(), Refusal>
 }
 
 // What is at the index of a cell's slot; an empty slot where it has none.
-#[tactic(auto, using(crate::proofs::Outcomes::own_place), unfolding(slots::specs::Slots::slot_of))]
+#[tactic(auto, using(crate::proofs::Outcomes::own_index, crate::proofs::Outcomes::slot_held, crate::proofs::Outcomes::none_held))]
 fn held_at(slots: &[Slot; SLOT_COUNT], cell: LoopCell, own: Option<usize>) -> Slot
     requires { own ≡ position (holds cell) slots.now }
     ensures { result ≡ slot_of cell slots.now }
@@ -96,7 +96,6 @@ fn held_at(slots: &[Slot; SLOT_COUNT], cell: LoopCell, own: Option<usize>) -> Sl
 }
 
 // The index of the slot that an add to the cell uses.
-#[tactic(auto, using(crate::proofs::Outcomes::own_place), unfolding(shares::specs::Shares::place_of))]
 fn place_for(slots: &[Slot; SLOT_COUNT], cell: LoopCell, own: Option<usize>) -> Option<usize>
     requires { own ≡ position (holds cell) slots.now }
     ensures { result ≡ index_in slots.now (place_of cell slots.now) }

@@ -5,7 +5,7 @@ use Rattle.proof_kit.proofs.Range.{returned}
 use Rattle.integers.specs.Root.{root}
 use Rattle.azimuthal_forward.specs.Steps.{H}
 use Rattle.azimuthal_inverse.specs.Answer.{inverse_of}
-use Rattle.azimuthal_inverse.proofs.StageLaws.{centre_bounded, reduced_small, stages_are, nearness_given, sphere_point_small}
+use Rattle.azimuthal_inverse.proofs.StageLaws.{centre_bounded, reduced_small, stages_are, nearness_given}
 use Rattle.azimuthal_inverse.proofs.inverse_point.Goals as goal
 
 pub nearness-requires : goal.nearness-requires
@@ -25,17 +25,8 @@ sphere_point-s-requires c =
     let small = reduced_small _ on.set_accepted on.of_set _ _ c.plane_point-q.ensures c.reduced_or_zero-r.ensures in
     (centre_bounded _ on.set_accepted on.of_set, small, c.scale.ensures ∙ ap H (returned c.nearness.type_inv ∙ c.nearness.ensures))
 
-pub squared_radius-requires : goal.squared_radius-requires
-squared_radius-requires c =
-    let on = c.args.projection.now in
-    let small = reduced_small _ on.set_accepted on.of_set _ _ c.plane_point-q.ensures c.reduced_or_zero-r.ensures in
-    sphere_point_small small (centre_bounded _ on.set_accepted on.of_set) c.sphere_point-s.ensures
-
 pub answer-requires : goal.answer-requires
-answer-requires c =
-    let on = c.args.projection.now in
-    let small = reduced_small _ on.set_accepted on.of_set _ _ c.plane_point-q.ensures c.reduced_or_zero-r.ensures in
-    (sphere_point_small small (centre_bounded _ on.set_accepted on.of_set) c.sphere_point-s.ensures, c.root-radius.ensures ∙ ap root c.squared_radius.ensures)
+answer-requires c = c.root-radius.ensures ∙ ap root c.squared_radius.ensures
 
 pub returns : goal.returns
 returns c =

@@ -10,7 +10,7 @@ use Rattle.azimuthal_forward.specs.Steps.{H}
 use Rattle.azimuthal_forward.proofs.StageLaws.{both}
 use Rattle.azimuthal_inverse.specs.Answer.{GeodeticAnswer, inverse_of}
 use Rattle.azimuthal_inverse.specs.InnerStages.{inverse_at}
-use Rattle.azimuthal_inverse.proofs.StageLaws.{centre_bounded, reduced_small, stages_are, nearness_given, sphere_point_small}
+use Rattle.azimuthal_inverse.proofs.StageLaws.{centre_bounded, reduced_small, stages_are, nearness_given}
 use Rattle.azimuthal_inverse.proofs.inverse_points.Goals as goal
 
 pub nearness-requires : goal.nearness-requires
@@ -50,33 +50,11 @@ sphere_point-s2-requires c =
       ap (λ (h : List ℕ). get_or h 1 0) c.scales.ensures ∙ ap H (returned c.nearness-2.type_inv ∙ c.nearness-2.ensures),
     )
 
-pub squared_radius-requires : goal.squared_radius-requires
-squared_radius-requires c =
-    let on = c.args.projection.now in
-    let small = reduced_small _ on.set_accepted on.of_set _ _ c.plane_point-q.ensures c.reduced_or_zero-r.ensures in
-    sphere_point_small small (centre_bounded _ on.set_accepted on.of_set) c.sphere_point-s.ensures
-
-pub squared_radius-requires-2 : goal.squared_radius-requires-2
-squared_radius-requires-2 c =
-    let on = c.args.projection.now in
-    let small = reduced_small _ on.set_accepted on.of_set _ _ c.plane_point-q2.ensures c.reduced_or_zero-r2.ensures in
-    sphere_point_small small (centre_bounded _ on.set_accepted on.of_set) c.sphere_point-s2.ensures
-
 pub answer-requires : goal.answer-requires
-answer-requires c =
-    let on = c.args.projection.now in
-    let small = reduced_small _ on.set_accepted on.of_set _ _ c.plane_point-q.ensures c.reduced_or_zero-r.ensures in (
-      sphere_point_small small (centre_bounded _ on.set_accepted on.of_set) c.sphere_point-s.ensures,
-      ap (λ (r : List ℕ). get_or r 0 0) c.roots.ensures ∙ ap root c.squared_radius.ensures,
-    )
+answer-requires c = ap (λ (r : List ℕ). get_or r 0 0) c.roots.ensures ∙ ap root c.squared_radius.ensures
 
 pub answer-requires-2 : goal.answer-requires-2
-answer-requires-2 c =
-    let on = c.args.projection.now in
-    let small = reduced_small _ on.set_accepted on.of_set _ _ c.plane_point-q2.ensures c.reduced_or_zero-r2.ensures in (
-      sphere_point_small small (centre_bounded _ on.set_accepted on.of_set) c.sphere_point-s2.ensures,
-      ap (λ (r : List ℕ). get_or r 1 0) c.roots.ensures ∙ ap root c.squared_radius-2.ensures,
-    )
+answer-requires-2 c = ap (λ (r : List ℕ). get_or r 1 0) c.roots.ensures ∙ ap root c.squared_radius-2.ensures
 
 -- what `at` holds where nothing does
 abbrev nowhere : PlanePosition
