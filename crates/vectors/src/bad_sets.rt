@@ -1,198 +1,187 @@
 // ETRS-LAEA with one field at each of its limits, one past it and far beyond it, and with all pairs of fields past a
-// limit: the number of the first field that is out is told.
-use crate::bad_input::{LEAST, MOST};
-use crate::names;
-use crate::names::name;
-use crate::rows::{forward_of, inverse_of, refused_row, row, set};
+// limit: refused by the first field that is out.
+use crate::rows::Question::{Forward, Inverse};
+use crate::rows::{refused_row, there_and_back};
+use latitudes::Geodetic;
 use parameters::Parameters;
-use printing::value;
-use units::answers::accepted;
-use units::refusals::{BAD_A, BAD_E2, BAD_FALSE_EASTING, BAD_FALSE_NORTHING, BAD_LAT0, BAD_LON0};
+use printing::line;
+use std::fmt;
+use units::refusals::Refusal;
 
-// A field by its name, its refusal number and a value one past a limit.
+// A field of a set.
 #[derive(Clone, Copy)]
-struct Field {
-    name: usize,
-    number: u8,
-    past: i64,
+enum Field {
+    A,
+    E2,
+    Lat0,
+    Lon0,
+    FalseEasting,
+    FalseNorthing,
 }
 
-const A: Field = Field {
-    name: names::A,
-    number: BAD_A,
-    past: 99_999_999,
-};
+// In the order of document 01's table.
+const FIELDS: [Field; 6] = [
+    Field::A,
+    Field::E2,
+    Field::Lat0,
+    Field::Lon0,
+    Field::FalseEasting,
+    Field::FalseNorthing,
+];
 
-const E2: Field = Field {
-    name: names::E2,
-    number: BAD_E2,
-    past: 10_000_001,
-};
+const NAMES: &str = "a
+e2
+lat0
+lon0
+FE
+FN";
 
-const LAT0: Field = Field {
-    name: names::LAT0,
-    number: BAD_LAT0,
-    past: -306_000_001,
-};
+impl Field {
+    // What a set is refused by in which this is the first field that is out.
+    fn refusal(self) -> Refusal {
+        match self {
+            Field::A => Refusal::BadA,
+            Field::E2 => Refusal::BadE2,
+            Field::Lat0 => Refusal::BadLat0,
+            Field::Lon0 => Refusal::BadLon0,
+            Field::FalseEasting => Refusal::BadFalseEasting,
+            Field::FalseNorthing => Refusal::BadFalseNorthing,
+        }
+    }
 
-const LON0: Field = Field {
-    name: names::LON0,
-    number: BAD_LON0,
-    past: 648_000_001,
-};
+    // A value one past a limit.
+    fn past(self) -> i64 {
+        match self {
+            Field::A => 99_999_999,
+            Field::E2 => 10_000_001,
+            Field::Lat0 => -306_000_001,
+            Field::Lon0 => 648_000_001,
+            Field::FalseEasting => -1_000_000_001,
+            Field::FalseNorthing => 1_000_000_001,
+        }
+    }
 
-const FALSE_EASTING: Field = Field {
-    name: names::FALSE_EASTING,
-    number: BAD_FALSE_EASTING,
-    past: -1_000_000_001,
-};
+    // The set with another value in this field.
+    fn changed(self, p: Parameters, value: i64) -> Parameters {
+        match self {
+            Field::A => Parameters { a: value, ..p },
+            Field::E2 => Parameters { e2: value, ..p },
+            Field::Lat0 => Parameters {
+                lat0: Geodetic(value),
+                ..p
+            },
+            Field::Lon0 => Parameters { lon0: value, ..p },
+            Field::FalseEasting => Parameters {
+                false_easting: value,
+                ..p
+            },
+            Field::FalseNorthing => Parameters {
+                false_northing: value,
+                ..p
+            },
+        }
+    }
+}
 
-const FALSE_NORTHING: Field = Field {
-    name: names::FALSE_NORTHING,
-    number: BAD_FALSE_NORTHING,
-    past: 1_000_000_001,
-};
+impl fmt::Display for Field {
+    fn fmt<W: fmt::Write>(&self, f: &mut fmt::Formatter<W>) -> fmt::Result {
+        f.write_str(line(NAMES, *self as usize))
+    }
+}
 
 const BILLION: i64 = 1_000_000_000;
 
 const PAST_BILLION: i64 = 1_000_000_001;
 
-// The new number for the field of that name, and its own for any other.
-fn number(k: usize, changed: usize, new: i64, own: i64) -> i64 {
-    if changed == k {
-        return new;
-    }
-    own
-}
+// What stands before the rows of a set whose fields are told above them.
+const OF_A_SET: &str = "   ";
 
 // The set with a new number in one field; it is told.
-fn changed(rt: &impl Print, p: Parameters, k: usize, z: i64) -> Parameters {
-    name(rt, k);
-    value(rt, z);
-    let lat0 = p.lat0;
-    set(
-        number(names::A, k, z, p.a),
-        number(names::E2, k, z, p.e2),
-        number(names::LAT0, k, z, lat0.0),
-        number(names::LON0, k, z, p.lon0),
-        number(names::FALSE_EASTING, k, z, p.false_easting),
-        number(names::FALSE_NORTHING, k, z, p.false_northing),
-    )
+fn changed(rt: &impl Print, p: Parameters, field: Field, z: i64) -> Parameters {
+    let _ = println!(rt; "{field} = {z}");
+    field.changed(p, z)
 }
 
 // The centre of ETRS-LAEA and its false origin.
-fn refused(rt: &impl Print, p: Parameters, number: u8) {
-    let k = names::OF_A_SET;
-    refused_row(rt, k, forward_of(p, 187_200_000, 36_000_000), number);
-    refused_row(rt, k, inverse_of(p, 432_100_000, 321_000_000), number);
+fn refused(rt: &impl Print, p: Parameters, refusal: Refusal) {
+    let q = Forward(187_200_000, 36_000_000);
+    refused_row(rt, OF_A_SET, p, q, refusal);
+    let q = Inverse(432_100_000, 321_000_000);
+    refused_row(rt, OF_A_SET, p, q, refusal);
 }
 
-fn bad(rt: &impl Print, f: Field, z: i64) {
-    refused(
-        rt,
-        changed(rt, Parameters::etrs_laea(), f.name, z),
-        f.number,
-    );
+fn bad(rt: &impl Print, field: Field, z: i64) {
+    let p = changed(rt, Parameters::ETRS_LAEA, field, z);
+    refused(rt, p, field.refusal());
 }
 
 // Accepted: the set's centre goes to its false origin, and back.
-fn good(rt: &impl Print, f: Field, z: i64) {
-    let p = changed(rt, Parameters::etrs_laea(), f.name, z);
-    let lat0 = p.lat0;
-    let lat = lat0.0;
-    let lon = p.lon0;
-    let easting = p.false_easting;
-    let northing = p.false_northing;
-    let k = names::OF_A_SET;
-    row(
-        rt,
-        k,
-        forward_of(p, lat, lon),
-        accepted(easting, northing),
-        0,
-    );
-    row(
-        rt,
-        k,
-        inverse_of(p, easting, northing),
-        accepted(lat, lon),
-        0,
-    );
-}
-
-// Two fields past a limit, the first of them told.
-fn pair(rt: &impl Print, f: Field, g: Field) {
-    let p = changed(rt, Parameters::etrs_laea(), f.name, f.past);
-    refused(rt, changed(rt, p, g.name, g.past), f.number);
+fn good(rt: &impl Print, field: Field, z: i64) {
+    let p = changed(rt, Parameters::ETRS_LAEA, field, z);
+    there_and_back(rt, OF_A_SET, p);
 }
 
 // In every field.
-fn bad_fields(rt: &impl Print, z: i64) {
-    bad(rt, A, z);
-    bad(rt, E2, z);
-    bad(rt, LAT0, z);
-    bad(rt, LON0, z);
-    bad(rt, FALSE_EASTING, z);
-    bad(rt, FALSE_NORTHING, z);
-}
-
 pub(crate) fn extremes(rt: &impl Print) {
-    bad_fields(rt, LEAST);
-    bad_fields(rt, MOST);
+    for z in [i64::MIN, i64::MAX] {
+        for field in FIELDS {
+            bad(rt, field, z);
+        }
+    }
 }
 
 // The limits of a span, and the numbers next to it.
-fn span(rt: &impl Print, f: Field, before: i64, least: i64, most: i64, after: i64) {
-    bad(rt, f, before);
-    good(rt, f, least);
-    good(rt, f, most);
-    bad(rt, f, after);
+fn span(rt: &impl Print, field: Field, before: i64, least: i64, most: i64, after: i64) {
+    bad(rt, field, before);
+    good(rt, field, least);
+    good(rt, field, most);
+    bad(rt, field, after);
+}
+
+// A false easting or northing.
+fn false_span(rt: &impl Print, field: Field) {
+    span(rt, field, -PAST_BILLION, -BILLION, BILLION, PAST_BILLION);
 }
 
 pub(crate) fn limits(rt: &impl Print) {
-    span(rt, A, 99_999_999, 100_000_000, BILLION, PAST_BILLION);
-    span(rt, E2, -1, 0, 10_000_000, 10_000_001);
+    span(rt, Field::A, 99_999_999, 100_000_000, BILLION, PAST_BILLION);
+    span(rt, Field::E2, -1, 0, 10_000_000, 10_000_001);
+    let lat0 = Field::Lat0;
     span(
         rt,
-        LAT0,
+        lat0,
         -306_000_001,
         -306_000_000,
         306_000_000,
         306_000_001,
     );
-    bad(rt, LAT0, -324_000_001);
-    good(rt, LAT0, -324_000_000);
-    bad(rt, LAT0, -323_999_999);
-    bad(rt, LAT0, 323_999_999);
-    good(rt, LAT0, 324_000_000);
-    bad(rt, LAT0, 324_000_001);
+    bad(rt, lat0, -324_000_001);
+    good(rt, lat0, -324_000_000);
+    bad(rt, lat0, -323_999_999);
+    bad(rt, lat0, 323_999_999);
+    good(rt, lat0, 324_000_000);
+    bad(rt, lat0, 324_000_001);
+    let lon0 = Field::Lon0;
     span(
         rt,
-        LON0,
+        lon0,
         -648_000_000,
         -647_999_999,
         648_000_000,
         648_000_001,
     );
-    let before = -PAST_BILLION;
-    span(rt, FALSE_EASTING, before, -BILLION, BILLION, PAST_BILLION);
-    span(rt, FALSE_NORTHING, before, -BILLION, BILLION, PAST_BILLION);
+    false_span(rt, Field::FalseEasting);
+    false_span(rt, Field::FalseNorthing);
 }
 
+// Two fields past a limit.
 pub(crate) fn pairs(rt: &impl Print) {
-    pair(rt, A, E2);
-    pair(rt, A, LAT0);
-    pair(rt, A, LON0);
-    pair(rt, A, FALSE_EASTING);
-    pair(rt, A, FALSE_NORTHING);
-    pair(rt, E2, LAT0);
-    pair(rt, E2, LON0);
-    pair(rt, E2, FALSE_EASTING);
-    pair(rt, E2, FALSE_NORTHING);
-    pair(rt, LAT0, LON0);
-    pair(rt, LAT0, FALSE_EASTING);
-    pair(rt, LAT0, FALSE_NORTHING);
-    pair(rt, LON0, FALSE_EASTING);
-    pair(rt, LON0, FALSE_NORTHING);
-    pair(rt, FALSE_EASTING, FALSE_NORTHING);
+    for (place, first) in FIELDS.into_iter().enumerate() {
+        let p = Parameters::ETRS_LAEA;
+        for second in FIELDS.into_iter().skip(place + 1) {
+            let p = changed(rt, p, first, first.past());
+            let p = changed(rt, p, second, second.past());
+            refused(rt, p, first.refusal());
+        }
+    }
 }

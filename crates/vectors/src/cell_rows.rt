@@ -1,134 +1,89 @@
 // Cells of every side, on both sides of 0 and of the limit.
-ghost use Rattle.std.specs.Prelude.{◌≡◌};
-ghost use Rattle.cells.specs.Cells.{told_of_cell};
-ghost use Rattle.vectors.specs.InnerRows.{cell_at, is_near};
+ghost use Rattle.std.specs.Prelude.{◌≡◌, IsTrue, ◌↔◌};
+ghost use Rattle.cells.specs.Cells.{cell_answer, cell_of};
 
-use crate::bad_input::{FALSE_EASTING, FALSE_NORTHING, LEAST, MOST};
-use cells::{cell, cell_told};
-use gaps::{gaps_of, is_right};
-use printing::words::word;
-use printing::{number, refusal, verdict, words};
-use units::answers::{Told, accepted, refused};
-use units::refusals::OUT_OF_LIMITS;
+use crate::bad_input::{FALSE_EASTING, FALSE_NORTHING};
+use cells::{CellNumbers, SIDE_1_KM, SIDE_10_KM, SIDE_100_M, cell};
+use printing::{Shown, verdict};
+use std::fmt;
+use units::refusals::Refusal;
 use units::{PLANE_LEAST, PLANE_MOST};
 
-// What is asked.
+// A cell's numbers as a row shows them.
 #[derive(Clone, Copy)]
-struct Question {
-    side: i64,
-    easting: i64,
-    northing: i64,
-}
+struct Numbers(CellNumbers);
 
-fn at(side: i64, easting: i64, northing: i64) -> Question
-    ensures { result ≡ cell_at side easting northing }
-{
-    Question {
-        side,
-        easting,
-        northing,
+impl fmt::Display for Numbers {
+    fn fmt<W: fmt::Write>(&self, f: &mut fmt::Formatter<W>) -> fmt::Result {
+        let CellNumbers { east, north } = self.0;
+        write!(f, "{east} {north}")
     }
 }
 
-fn answer(q: Question) -> Told
-    ensures { result ≡ told_of_cell q.side q.easting q.northing }
+type Answer = Result<CellNumbers, Refusal>;
+
+fn in_cell(east: i64, north: i64) -> Answer
+    ensures { result ≡ Ok record { east = east; north = north } }
 {
-    cell_told(cell(q.side, q.easting, q.northing))
+    Ok(CellNumbers { east, north })
 }
 
-fn asked(rt: &impl Print, q: Question) {
-    word(rt, words::CELL);
-    number(rt, q.side);
-    number(rt, q.easting);
-    number(rt, q.northing);
-    word(rt, words::ANSWER);
+// The row up to its verdict.
+fn show(rt: &impl Print, side: i64, easting: i64, northing: i64, found: Answer, right: Answer) {
+    let shown = Shown(found.map(Numbers));
+    let expected = Shown(right.map(Numbers));
+    let _ = print!(rt; "cell {side} {easting} {northing}: {shown}, expected {expected}");
 }
 
-fn show(rt: &impl Print, a: Told) {
-    if a.refusal != 0 {
-        refusal(rt, a.refusal);
-        return;
-    }
-    number(rt, a.first);
-    number(rt, a.second);
-}
-
-fn row(rt: &impl Print, q: Question, right: Told) -> bool
-    ensures { result ≡ is_near 0 (told_of_cell q.side q.easting q.northing) right }
+#[tactic(auto, using(crate::proofs::CellLaws::same_answer))]
+fn row(rt: &impl Print, side: i64, easting: i64, northing: i64, right: Answer) -> bool
+    ensures { IsTrue result ↔ (cell_of side easting northing ≡ cell_answer right) }
 {
-    asked(rt, q);
-    let found = answer(q);
-    show(rt, found);
-    word(rt, words::EXPECTED);
-    show(rt, right);
-    verdict(rt, is_right(found, right, gaps_of(found, right), 0))
+    let found = cell(side, easting, northing);
+    show(rt, side, easting, northing, found, right);
+    verdict(rt, found == right)
 }
 
 pub(crate) fn sides(rt: &impl Print) {
-    row(
-        rt,
-        at(10_000, FALSE_EASTING, FALSE_NORTHING),
-        accepted(43_210, 32_100),
-    );
-    row(
-        rt,
-        at(100_000, FALSE_EASTING, FALSE_NORTHING),
-        accepted(4_321, 3_210),
-    );
-    row(
-        rt,
-        at(1_000_000, FALSE_EASTING, FALSE_NORTHING),
-        accepted(432, 321),
-    );
-    let right = refused(OUT_OF_LIMITS);
-    row(rt, at(1_000, FALSE_EASTING, FALSE_NORTHING), right);
-    row(rt, at(0, FALSE_EASTING, FALSE_NORTHING), right);
-    row(rt, at(-10_000, FALSE_EASTING, FALSE_NORTHING), right);
-    row(rt, at(LEAST, FALSE_EASTING, FALSE_NORTHING), right);
-    row(rt, at(MOST, FALSE_EASTING, FALSE_NORTHING), right);
+    let at_origin = |side, right| row(rt, side, FALSE_EASTING, FALSE_NORTHING, right);
+    at_origin(SIDE_100_M, in_cell(43_210, 32_100));
+    at_origin(SIDE_1_KM, in_cell(4_321, 3_210));
+    at_origin(SIDE_10_KM, in_cell(432, 321));
+    for side in [1_000, 0, -10_000, i64::MIN, i64::MAX] {
+        at_origin(side, Err(Refusal::OutOfLimits));
+    }
 }
 
 // One side to the south or west of 0, and 1 cm more.
 fn near_zero(rt: &impl Print, side: i64, one_side: i64, one_more: i64) {
-    row(rt, at(side, 1, 0), accepted(0, 0));
-    row(rt, at(side, -1, one_side), accepted(-1, -1));
-    row(rt, at(side, one_side, -1), accepted(-1, -1));
-    row(rt, at(side, 0, one_more), accepted(0, -2));
-    row(rt, at(side, one_more, 1), accepted(-2, 0));
+    row(rt, side, 1, 0, in_cell(0, 0));
+    row(rt, side, -1, one_side, in_cell(-1, -1));
+    row(rt, side, one_side, -1, in_cell(-1, -1));
+    row(rt, side, 0, one_more, in_cell(0, -2));
+    row(rt, side, one_more, 1, in_cell(-2, 0));
 }
 
 // −1 cm lies in cell −1.
 pub(crate) fn around_zero(rt: &impl Print) {
-    near_zero(rt, 10_000, -10_000, -10_001);
-    near_zero(rt, 100_000, -100_000, -100_001);
-    near_zero(rt, 1_000_000, -1_000_000, -1_000_001);
-    row(rt, at(10_000, -9_999, 9_999), accepted(-1, 0));
-    row(
-        rt,
-        at(100_000, -19_999_999, 19_999_999),
-        accepted(-200, 199),
-    );
-}
-
-// A coordinate beyond the limits, along each axis.
-fn refused_at(rt: &impl Print, side: i64, coordinate: i64) {
-    let right = refused(OUT_OF_LIMITS);
-    row(rt, at(side, coordinate, 0), right);
-    row(rt, at(side, 0, coordinate), right);
+    near_zero(rt, SIDE_100_M, -10_000, -10_001);
+    near_zero(rt, SIDE_1_KM, -100_000, -100_001);
+    near_zero(rt, SIDE_10_KM, -1_000_000, -1_000_001);
+    row(rt, SIDE_100_M, -9_999, 9_999, in_cell(-1, 0));
+    row(rt, SIDE_1_KM, -19_999_999, 19_999_999, in_cell(-200, 199));
 }
 
 // The limits, whose cells have these numbers, 1 cm past them, and the ends of an i64.
 fn near_limits(rt: &impl Print, side: i64, top: i64, bottom: i64) {
-    row(rt, at(side, PLANE_MOST, PLANE_LEAST), accepted(top, bottom));
-    row(rt, at(side, PLANE_LEAST, PLANE_MOST), accepted(bottom, top));
-    refused_at(rt, side, 5_000_000_001);
-    refused_at(rt, side, -5_000_000_001);
-    refused_at(rt, side, MOST);
-    refused_at(rt, side, LEAST);
+    row(rt, side, PLANE_MOST, PLANE_LEAST, in_cell(top, bottom));
+    row(rt, side, PLANE_LEAST, PLANE_MOST, in_cell(bottom, top));
+    for coordinate in [5_000_000_001, -5_000_000_001, i64::MAX, i64::MIN] {
+        row(rt, side, coordinate, 0, Err(Refusal::OutOfLimits));
+        row(rt, side, 0, coordinate, Err(Refusal::OutOfLimits));
+    }
 }
 
 pub(crate) fn limits(rt: &impl Print) {
-    near_limits(rt, 10_000, 500_000, -500_000);
-    near_limits(rt, 100_000, 50_000, -50_000);
-    near_limits(rt, 1_000_000, 5_000, -5_000);
+    near_limits(rt, SIDE_100_M, 500_000, -500_000);
+    near_limits(rt, SIDE_1_KM, 50_000, -50_000);
+    near_limits(rt, SIDE_10_KM, 5_000, -5_000);
 }

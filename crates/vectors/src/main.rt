@@ -6,32 +6,22 @@ mod bad_sets;
 mod cell_rows;
 mod centres;
 mod examples;
-mod names;
 mod nearness;
 mod rows;
 mod series_rows;
 mod words;
 
-ghost use Rattle.sine_table.specs.Table.{IsTable};
-
-use sine_table::Table;
-
-// The rows that take sines themselves.
-fn with_sines(rt: &impl Print, t: &Table)
-    requires { IsTable t.now }
-{
-    words::sines(rt, t);
-    words::angles(rt, t);
-    examples::document_001(rt, t);
-    examples::document_004_sphere(rt, t);
-    examples::document_004_oblique(rt, t);
-    examples::document_004_polar(rt, t);
-}
+use sine_table::SineTable;
 
 fn main(rt: HostRuntime) {
-    let t = sine_table::table();
+    let t = SineTable::new();
     words::on_numbers(&rt);
-    with_sines(&rt, &t);
+    words::sines(&rt, &t);
+    words::angles(&rt, &t);
+    examples::document_001(&rt, &t);
+    examples::document_004_sphere(&rt, &t);
+    examples::document_004_oblique(&rt, &t);
+    examples::document_004_polar(&rt, &t);
     examples::exact_rows(&rt);
     centres::off_the_poles(&rt);
     centres::polar(&rt);

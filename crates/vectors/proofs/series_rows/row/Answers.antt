@@ -10,4 +10,4 @@ unfolding accepted_e2
 e2_small e2 h = (between e2 0 10_000_000 h).most
 
 pub latitude-right-requires : goal.latitude-right-requires
-latitude-right-requires g c = (c.requires.0, rw (to_z-of_z c.ranges.e2) (e2_small c.args.e2 c.requires.1), c.requires.2)
+latitude-right-requires g c = (rw (to_z-of_z c.ranges.e2) (e2_small c.args.e2 c.requires.0), c.requires.1)
