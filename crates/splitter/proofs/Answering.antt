@@ -12,7 +12,7 @@ use Rattle.text.proofs.Pasting.{put_as, put_both, put_none, put_length}
 use Rattle.text.specs.Ascii.{newline}
 use Rattle.lines.specs.Lines.{answer_line, answer_most}
 use Rattle.lines.proofs.Sizes.{answer_size}
-use Rattle.splitter.specs.Splitting.{ended_lines, part_left, last_line_lem, answers_of}
+use Rattle.splitter.specs.Splitting.{ended_lines, part_left, last_line, answers_of}
 use Rattle.splitter.proofs.Newlines.{by_newline, ended_along, left_along, past_newline, to_end}
 
 -- Each byte of a piece ends at most one line.
@@ -26,12 +26,12 @@ answers_size part (b ∷ bs) =
     (omega (arith, answers_size [] bs, answer_size part, length-append (answer_line part) (answers_of (ended_lines [] bs))))
     (omega (arith, answers_size (part ++ (b ∷ [])) bs))
 
-pub last_size : (part : List ℕ) → length (answers_of (last_line_lem part)) ≤ answer_most
+pub last_size : (part : List ℕ) → length (answers_of (last_line part)) ≤ answer_most
 last_size [] = omega arith
 last_size (b ∷ bs) = omega (arith, answer_size (b ∷ bs), length-append (answer_line (b ∷ bs)) [])
 
 -- nothing is answered where nothing is carried
-pub last_none : (part out : List ℕ) → length part ≡ 0 → Put out 0 (answers_of (last_line_lem part)) out 0
+pub last_none : (part out : List ℕ) → length part ≡ 0 → Put out 0 (answers_of (last_line part)) out 0
 last_none [] out none = put_none out 0
 last_none (b ∷ bs) out none = absurd (omega arith)
 

@@ -10,7 +10,7 @@ use Rattle.text.specs.Cutting.{index_of, up_to}
 use Rattle.requests.specs.Requests.{most_kept}
 use Rattle.text.specs.Ascii.{newline}
 use Rattle.lines.specs.Lines.{answer_line}
-use Rattle.splitter.specs.Splitting.{ended_lines, part_left, last_line_lem, lines_of, answers_of, output_from, lines_from, joined, kept}
+use Rattle.splitter.specs.Splitting.{ended_lines, part_left, last_line, lines_of, answers_of, output_from, lines_from, joined, kept}
 use Rattle.splitter.specs.Theorems.{LinesAlike, PiecesAlike, EmptyInput, EmptyLine, NothingAfter, LastLine, OnlyLine}
 use Rattle.splitter.proofs.Newlines.{by_newline, ended_along, left_along, to_end}
 use Rattle.splitter.proofs.Keeping.{answers_from, from_alike}
@@ -41,7 +41,7 @@ answers_joined : (xs ys : List (List ℕ)) → answers_of (xs ++ ys) ≡ answers
 answers_joined [] ys = refl
 answers_joined (x ∷ xs) ys = ap (λ (l : List ℕ). answer_line x ++ l) (answers_joined xs ys) ∙ sym (append_assoc (answer_line x) (answers_of xs) (answers_of ys))
 
-lines_from_lem : (part : List ℕ) (pieces : List (List ℕ)) → lines_from part pieces ≡ ended_lines part (joined pieces) ++ last_line_lem (part_left part (joined pieces))
+lines_from_lem : (part : List ℕ) (pieces : List (List ℕ)) → lines_from part pieces ≡ ended_lines part (joined pieces) ++ last_line (part_left part (joined pieces))
 lines_from_lem part [] = refl
 lines_from_lem part (piece ∷ pieces) =
     ap (λ (l : List (List ℕ)). ended_lines part piece ++ l) (lines_from_lem (part_left part piece) pieces)
@@ -59,7 +59,7 @@ output_from_lem part (piece ∷ pieces) =
     ∙ sym (simp (ended_joined, left_joined, answers_joined, append_assoc))
 
 pub pieces_alike : PiecesAlike
-pieces_alike pieces = output_from_lem [] pieces ∙ sym (answers_joined (ended_lines [] (joined pieces)) (last_line_lem (part_left [] (joined pieces))))
+pieces_alike pieces = output_from_lem [] pieces ∙ sym (answers_joined (ended_lines [] (joined pieces)) (last_line (part_left [] (joined pieces))))
 
 pub empty_input : EmptyInput
 empty_input = refl
@@ -76,7 +76,7 @@ last_after :
     part_left [] xs ≡ [] →
     up_to newline (b ∷ bs) ≡ b ∷ bs →
     lines_of (xs ++ (b ∷ bs)) ≡ ended_lines [] xs ++ ((b ∷ bs) ∷ [])
-last_after xs b bs nothing h = ap₂ (λ (e : List (List ℕ)) (p : List ℕ). e ++ last_line_lem p) (ended nothing) (left nothing)
+last_after xs b bs nothing h = ap₂ (λ (e : List (List ℕ)) (p : List ℕ). e ++ last_line p) (ended nothing) (left nothing)
   where
     long : length (b ∷ bs) ≤ index_of newline (b ∷ bs)
     long = omega (arith, ap length h, length-take (index_of newline (b ∷ bs)) (b ∷ bs))

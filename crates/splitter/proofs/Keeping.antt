@@ -10,7 +10,7 @@ use lib.ListN.{length, take}
 use Rattle.lines.specs.Lines.{answer_line}
 use Rattle.lines.proofs.Kept.{answer_kept}
 use Rattle.requests.specs.Requests.{most_kept}
-use Rattle.splitter.specs.Splitting.{ended_lines, part_left, last_line_lem, answers_of, kept}
+use Rattle.splitter.specs.Splitting.{ended_lines, part_left, last_line, answers_of, kept}
 use Rattle.splitter.proofs.Newlines.{by_newline}
 
 take_again : (n : ℕ) (p s : List ℕ) → take n (take n p ++ s) ≡ take n (p ++ s)
@@ -30,11 +30,11 @@ pub answered_alike : (p q : List ℕ) → kept p ≡ kept q → answer_line p �
 answered_alike p q e = sym (answer_kept p) ∙ ap answer_line e ∙ answer_kept q
 
 -- the answer of a last line that has come
-pub last_answer : (p : List ℕ) → 0 < length p → answers_of (last_line_lem p) ≡ answer_line p
+pub last_answer : (p : List ℕ) → 0 < length p → answers_of (last_line p) ≡ answer_line p
 last_answer [] h = absurd (not-suc-le-zero h)
 last_answer (b ∷ p) h = append-nil (answer_line (b ∷ p))
 
-last_alike : (p q : List ℕ) → kept p ≡ kept q → answers_of (last_line_lem p) ≡ answers_of (last_line_lem q)
+last_alike : (p q : List ℕ) → kept p ≡ kept q → answers_of (last_line p) ≡ answers_of (last_line q)
 last_alike [] [] e = refl
 last_alike [] (b ∷ q) e = absurd (nil≢cons e)
 last_alike (b ∷ p) [] e = absurd (cons≢nil e)
@@ -42,15 +42,15 @@ last_alike (b ∷ p) (d ∷ q) e = last_answer (b ∷ p) (omega arith) ∙ answe
 
 -- the answers to the input's lines where `part` has come already
 abbrev pub answers_from : List ℕ → List ℕ → List ℕ
-answers_from part input = answers_of (ended_lines part input) ++ answers_of (last_line_lem (part_left part input))
+answers_from part input = answers_of (ended_lines part input) ++ answers_of (last_line (part_left part input))
 
 pub from_alike : (p q input : List ℕ) → kept p ≡ kept q → answers_from p input ≡ answers_from q input
 from_alike p q [] e = last_alike p q e
 from_alike p q (b ∷ bs) e =
     by_newline
     (λ (t : Bool).
-    answers_of (cond t (p ∷ ended_lines [] bs) (ended_lines (p ++ (b ∷ [])) bs)) ++ answers_of (last_line_lem (cond t (part_left [] bs) (part_left (p ++ (b ∷ [])) bs)))
-    ≡ answers_of (cond t (q ∷ ended_lines [] bs) (ended_lines (q ++ (b ∷ [])) bs)) ++ answers_of (last_line_lem (cond t (part_left [] bs) (part_left (q ++ (b ∷ [])) bs))))
+    answers_of (cond t (p ∷ ended_lines [] bs) (ended_lines (p ++ (b ∷ [])) bs)) ++ answers_of (last_line (cond t (part_left [] bs) (part_left (p ++ (b ∷ [])) bs)))
+    ≡ answers_of (cond t (q ∷ ended_lines [] bs) (ended_lines (q ++ (b ∷ [])) bs)) ++ answers_of (last_line (cond t (part_left [] bs) (part_left (q ++ (b ∷ [])) bs))))
     b
-    (ap (λ (l : List ℕ). l ++ answers_of (ended_lines [] bs) ++ answers_of (last_line_lem (part_left [] bs))) (answered_alike p q e))
+    (ap (λ (l : List ℕ). l ++ answers_of (ended_lines [] bs) ++ answers_of (last_line (part_left [] bs))) (answered_alike p q e))
     (from_alike (p ++ (b ∷ [])) (q ++ (b ∷ [])) bs (kept_joined p q (b ∷ []) e))

@@ -15,13 +15,13 @@ part_left part [] = part
 part_left part (b ∷ bs) = cond (eqb b newline) (part_left [] bs) (part_left (part ++ (b ∷ [])) bs)
 
 -- "the last may lack it": a part that is left at the input's end is a line; nothing after the last newline is none
-abbrev pub last_line_lem : List ℕ → List (List ℕ)
-last_line_lem [] = []
-last_line_lem (b ∷ bs) = (b ∷ bs) ∷ []
+abbrev pub last_line : List ℕ → List (List ℕ)
+last_line [] = []
+last_line (b ∷ bs) = (b ∷ bs) ∷ []
 
 -- the lines of a whole input
 abbrev pub lines_of : List ℕ → List (List ℕ)
-lines_of input = ended_lines [] input ++ last_line_lem (part_left [] input)
+lines_of input = ended_lines [] input ++ last_line (part_left [] input)
 
 -- the answers of lines, one after the other
 abbrev pub answers_of : List (List ℕ) → List ℕ
@@ -38,12 +38,12 @@ kept part = take most_kept part
 
 -- what is written for an input that comes in pieces, where only the kept bytes are carried from one to the next
 abbrev pub output_from : List ℕ → List (List ℕ) → List ℕ
-output_from part [] = answers_of (last_line_lem part)
+output_from part [] = answers_of (last_line part)
 output_from part (piece ∷ pieces) = answers_of (ended_lines part piece) ++ output_from (kept (part_left part piece)) pieces
 
 -- the lines of an input that comes in pieces, where the whole part is carried
 abbrev pub lines_from : List ℕ → List (List ℕ) → List (List ℕ)
-lines_from part [] = last_line_lem part
+lines_from part [] = last_line part
 lines_from part (piece ∷ pieces) = ended_lines part piece ++ lines_from (part_left part piece) pieces
 
 abbrev pub joined : List (List ℕ) → List ℕ

@@ -6,7 +6,7 @@ ghost use Rattle.std.specs.Prelude.{◌≡◌, [], ◌++◌, ◌+◌, ◌*◌, �
 ghost use Rattle.text.specs.Pasting.{Put};
 ghost use Rattle.parameters.specs.ParameterSet.{etrs_laea};
 ghost use Rattle.lines.specs.Lines.{answer_line, answer_most};
-ghost use Rattle.splitter.specs.Splitting.{ended_lines, part_left, last_line_lem, answers_of, carried_of, part_of};
+ghost use Rattle.splitter.specs.Splitting.{ended_lines, part_left, last_line, answers_of, carried_of, part_of};
 
 use arrayvec::ArrayVec;
 use constants::projection::Projection;
@@ -107,7 +107,7 @@ pub fn answer_piece(
 #[tactic(auto, using(crate::proofs::Answering::last_none))]
 pub fn answer_last(projection: &Projection, carried: &Carried, out: &mut [u8; ANSWER_MOST]) -> usize
     requires { projection.now.set ≡ etrs_laea }
-    ensures { Put out.old 0 (answers_of (last_line_lem (part_of carried.now))) out.new result }
+    ensures { Put out.old 0 (answers_of (last_line (part_of carried.now))) out.new result }
 {
     match carried.as_slice() {
         [] => 0,
