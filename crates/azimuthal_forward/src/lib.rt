@@ -195,7 +195,8 @@ pub fn forward_points(
 pub fn forward(p: Parameters, lat: Geodetic, lon: i64) -> Result<PlanePosition, Refusal>
     ensures { (plane_answer result ≡ forward_of p lat lon) × (plane_told (plane_answer result) ≡ forward_told p lat lon) }
 {
+    p.check()?;
     let table = SineTable::new();
-    let projection = Projection::new(&table, p)?;
+    let projection = Projection::of_accepted(&table, p);
     forward_point(&projection, lat, lon)
 }

@@ -5,6 +5,7 @@ ghost use Rattle.std.specs.Prelude.{◌≡◌, ◌≤◌, map, nat_abs};
 ghost use Rattle.integers.specs.Root.{root};
 ghost use Rattle.constants.specs.InnerPrepared.{BoundedCentre};
 ghost use Rattle.azimuthal_forward.specs.Steps.{H as scale_of};
+ghost use Rattle.sphere_points.specs.Points.{point_at};
 ghost use Rattle.sphere_points.specs.Sphere.{G};
 ghost use Rattle.sphere_points.specs.InnerSizes.{squared_radius};
 ghost use Rattle.azimuthal_inverse.specs.Steps.{at_origin, on_map};
@@ -114,7 +115,7 @@ fn nearness(r: Reduced) -> i64
 // The point of the sphere, with H of its nearness.
 fn sphere_point(k: Constants, r: Reduced, h: u64) -> SpherePoint
     requires { BoundedCentre k × SmallReduced r × (h ≡ scale_of (G r.versed)) }
-    ensures { result ≡ sphere_point_of k r }
+    ensures { point_at result.east result.z result.f ≡ sphere_point_of k r }
 {
     point(k, r.x, r.y, r.versed, h)
 }
@@ -122,8 +123,8 @@ fn sphere_point(k: Constants, r: Reduced, h: u64) -> SpherePoint
 // The latitude and longitude of a point of the sphere, whose distance from the axis is `radius`. The search for
 // the geodetic latitude comes last: neither angle waits for it.
 fn position(projection: &Projection, s: SpherePoint, radius: u64) -> GeodeticPosition
-    requires { radius ≡ root (squared_radius s) }
-    ensures { Position result.latitude result.longitude ≡ position_of projection.now.constants.series projection.now.set.lon0 s }
+    requires { radius ≡ root (squared_radius (point_at s.east s.z s.f)) }
+    ensures { Position result.latitude result.longitude ≡ position_of projection.now.constants.series projection.now.set.lon0 (point_at s.east s.z s.f) }
 {
     let delta = longitude_of(projection.table, s);
     let beta = latitude_of(projection.table, s, radius);
@@ -140,8 +141,8 @@ fn answer(
     s: SpherePoint,
     radius: u64,
 ) -> Result<GeodeticPosition, Refusal>
-    requires { radius ≡ root (squared_radius s) }
-    ensures { geodetic_answer result ≡ answer_of projection.now.set projection.now.constants (point_answer q) s }
+    requires { radius ≡ root (squared_radius (point_at s.east s.z s.f)) }
+    ensures { geodetic_answer result ≡ answer_of projection.now.set projection.now.constants (point_answer q) (point_at s.east s.z s.f) }
 {
     match q? {
         MapPoint::FalseOrigin => Ok(GeodeticPosition {
@@ -193,7 +194,8 @@ pub fn inverse_points(
 pub fn inverse(p: Parameters, easting: i64, northing: i64) -> Result<GeodeticPosition, Refusal>
     ensures { (geodetic_answer result ≡ inverse_of p easting northing) × (geodetic_told (geodetic_answer result) ≡ inverse_told p easting northing) }
 {
+    p.check()?;
     let table = SineTable::new();
-    let projection = Projection::new(&table, p)?;
+    let projection = Projection::of_accepted(&table, p);
     inverse_point(&projection, easting, northing)
 }

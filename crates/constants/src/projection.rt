@@ -26,10 +26,18 @@ impl<'t> Projection<'t> {
         ensures same_set { IfOk result (λ projection. projection.set ≡ set) }
     {
         set.check()?;
-        Ok(Projection {
+        Ok(Projection::of_accepted(table, set))
+    }
+
+    // Of a set that is accepted already: a caller that tests it first makes no table for a refused one.
+    pub fn of_accepted(table: &'t SineTable, set: Parameters) -> Projection<'t>
+        requires { set_refusal set ≡ 0 }
+        ensures { result.set ≡ set }
+    {
+        Projection {
             table,
             set,
             constants: constants_of(table, set),
-        })
+        }
     }
 }

@@ -45,12 +45,13 @@ module _ (p : Parameters) (xs ys first second : List Float) (mark : List ℕ) (n
   refused_by_set none e = rw none e
 
 module _ {refusal : ℕ} {points : List Row} {first second : List Float} {mark : List ℕ} where
-  by_number : (n : ℕ) → (n ≡ 0 → ⊥) → n ≡ refusal → Listed refusal points first first second second mark mark (Refused n)
+  -- a call that is refused with a number
+  pub by_number : (n : ℕ) → (n ≡ 0 → ⊥) → n ≡ refusal → Listed refusal points first first second second mark mark (Refused n)
   by_number zero some e = absurd (some refl)
   by_number (suc n) some e =
       rw (sym e) (record { first_are = refl; second_are = refl; marks_are = refl; answer_is = refl; answer_tells = refl })
 
-  -- a refused call
+  -- the same, by the code's answer
   pub listed_refused : (r : Result ℕ Refusal) (why : Refusal) → r ≡ Err why → number why ≡ refusal →
       Listed refusal points first first second second mark mark (list_answered r)
   listed_refused r why is e = rw is (by_number (number why) (number_some why) e)

@@ -47,8 +47,9 @@ fn list<D: Direction>(
         trailing.len(),
         marks.len(),
     )?;
+    p.check()?;
     let t = SineTable::new();
-    let projection = Projection::new(&t, p)?;
+    let projection = Projection::of_accepted(&t, p);
     fill::<D>(&projection, xs, ys, leading, trailing, marks);
     Ok(count_zeros(marks))
 }

@@ -12,7 +12,7 @@ use Rattle.units.specs.Answers.{answered}
 use Rattle.units.proofs.Spans.{size_inside}
 use Rattle.units.proofs.AnswerLaws.{answer_tells, set_refused}
 use Rattle.floats.specs.Limits.{within_limit, latitude_limit, longitude_limit, plane_limit_float}
-use Rattle.floats.specs.Kinds.{latitude, longitude, plane}
+use Rattle.floats.specs.InnerKinds.{latitude, longitude, plane}
 use Rattle.floats.proofs.Coordinates.{whole_within}
 use Rattle.latitudes.specs.declared.Geodetic.{Geodetic}
 use Rattle.parameters.specs.declared.Parameters.{Parameters}

@@ -175,8 +175,9 @@ pub fn both_pairs<D: Direction>(
 fn single<D: Direction>(p: Parameters, at: D::Given) -> Result<D::Found, Refusal>
     ensures { numbered result ≡ answer_by D.stages p at }
 {
+    p.check()?;
     let t = SineTable::new();
-    let projection = Projection::new(&t, p)?;
+    let projection = Projection::of_accepted(&t, p);
     pair::<D>(&projection, at)
 }
 

@@ -16,7 +16,7 @@ use Rattle.trig.specs.Sine.{sine, cosine}
 use Rattle.constants.specs.declared.Constants.{Constants}
 use Rattle.latitudes.specs.declared.Geodetic.{Geodetic}
 use Rattle.parameters.specs.declared.Parameters.{Parameters}
-use Rattle.sphere_points.specs.declared.SpherePoint.{SpherePoint}
+use Rattle.sphere_points.specs.Points.{Point}
 use Rattle.latitudes.specs.Latitude.{beta}
 use Rattle.latitudes.proofs.AuthalicLaws.{beta_size}
 use Rattle.azimuthal_forward.specs.Steps.{b, c, u, v, dE, dN}
@@ -56,7 +56,7 @@ module _ {p : Parameters} {k : Constants} {φ : Geodetic} (lon : ℤ) (g : Given
   abbrev Δ : ℤ
   Δ = lon -ℤ p.lon0
 
-  abbrev s : SpherePoint
+  abbrev s : Point
   s = found k (dE k φ Δ) (dN k φ Δ)
 
   -- ---- the latitude

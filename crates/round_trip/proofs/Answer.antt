@@ -28,7 +28,7 @@ use Rattle.constants.specs.declared.Constants.{Constants}
 use Rattle.latitudes.specs.declared.AuthalicSeries.{AuthalicSeries}
 use Rattle.latitudes.specs.declared.Geodetic.{Geodetic}
 use Rattle.parameters.specs.declared.Parameters.{Parameters}
-use Rattle.sphere_points.specs.declared.SpherePoint.{SpherePoint}
+use Rattle.sphere_points.specs.Points.{Point}
 use Rattle.azimuthal_inverse.specs.Answer.{Position, answer_from}
 use Rattle.units.specs.Spans.{same, within, wrapped}
 use Rattle.latitudes.proofs.AuthalicLaws.{beta_mas, beta_slope, beta_size}
@@ -89,12 +89,12 @@ turned lon = at (≤ℤ-total lon (neg_ℤ (pos half_turn))) (≤ℤ-total lon (
     at (inr h) (inr l) = record { turns = neg_ℤ (pos 1); is = wrapped_high lon l }
 
 -- the latitude that the steps compute serves as the angle of R and z
-own_latitude : (s : SpherePoint) → Sector (pos (radius s)) s.z (latitude_of s).0
+own_latitude : (s : Point) → Sector (pos (radius s)) s.z (latitude_of s).0
 unfolding latitude_of
 own_latitude s = latitude_sector (radius s) s.z
 
 -- and the longitude as that of f and east
-own_longitude : (s : SpherePoint) → Sector s.f s.east (longitude_of s)
+own_longitude : (s : Point) → Sector s.f s.east (longitude_of s)
 unfolding longitude_of
 own_longitude s = angle_sector s.f s.east
 
@@ -102,7 +102,7 @@ module _ (p : Parameters) (k : Constants) (sound : Sound k) (dE dN : ℤ) where
   -- the answer that the steps compute
   away : at_origin dE dN ≡ false → on_map k dE dN ≡ true → near_enough (G (K k dE dN)) ≡ true → Answer p k dE dN
   away e f g =
-      let s : SpherePoint = found k dE dN in
+      let s : Point = found k dE dN in
       record {
         φ' = geodetic k.series (latitude_of s);
         lon' = wrapped (p.lon0 +ℤ longitude_of s);
@@ -229,8 +229,8 @@ module _ (p : Parameters) (k : Constants) (sound : Sound k) (centred : Centred p
         turns = pos 0;
         position_is = from_origin p k (pos 0) (pos 0) refl;
         β'_size = β0_size;
-        latitude = subst (λ (s : SpherePoint). Sector (pos (radius s)) s.z β0) (sym (found_zero k sound)) centre_latitude;
-        longitude = subst (λ (s : SpherePoint). Sector s.f s.east (pos 0)) (sym (found_zero k sound)) (zero_sector k.c0 c0_nonneg);
+        latitude = subst (λ (s : Point). Sector (pos (radius s)) s.z β0) (sym (found_zero k sound)) centre_latitude;
+        longitude = subst (λ (s : Point). Sector s.f s.east (pos 0)) (sym (found_zero k sound)) (zero_sector k.c0 c0_nonneg);
         φ'_close = λ φ h l. beta_close k.series sound.small p.lat0.0 φ.0 l;
         lon'_is = ring (p.lon0 ∷ []) (search quote depth 40 fits 20000) tt;
       }

@@ -13,7 +13,7 @@ use Rattle.integers.specs.Near.{near}
 use Rattle.trig.specs.Sine.{sine, cosine}
 use Rattle.trig.proofs.Interface.{sine_size, cosine_size, near_circle}
 use Rattle.constants.specs.declared.Constants.{Constants}
-use Rattle.sphere_points.specs.declared.SpherePoint.{SpherePoint}
+use Rattle.sphere_points.specs.Points.{Point}
 use Rattle.latitudes.specs.declared.Geodetic.{Geodetic}
 use Rattle.latitudes.specs.Latitude.{beta}
 use Rattle.units.specs.Units.{U}
@@ -118,7 +118,7 @@ module _ {k : Constants} {φ : Geodetic} {Δ : ℤ} (g : Given k φ Δ) where
   abbrev K' : ℤ
   K' = K k (dE k φ Δ) (dN k φ Δ)
 
-  abbrev point : SpherePoint
+  abbrev point : Point
   point = found k (dE k φ Δ) (dN k φ Δ)
 
   -- H divides

@@ -7,7 +7,7 @@ mod minutes;
 ghost use Rattle.sine_table.specs.Table.{IsTable, IsTable-prop};
 
 // T: one value for each whole minute from 0 to 90°.
-#[derive(Drop)]
+#[derive(Clone, Copy)]
 pub struct SineTable {
     pub sines: [u32; 5401],
     pub ghost is_table: { IsTable sines } by { IsTable-prop sines },

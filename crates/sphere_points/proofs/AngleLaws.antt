@@ -19,7 +19,8 @@ use Rattle.integers.proofs.Squares.{root_most}
 use Rattle.units.specs.Units.{right_angle, half_turn}
 use Rattle.billionths.proofs.Calls.{back}
 use Rattle.angles.specs.Angle.{under, angle}
-use Rattle.sphere_points.specs.Points.{Point}
+use Rattle.sphere_points.specs.declared.SpherePoint.{SpherePoint}
+use Rattle.sphere_points.specs.Points.{Point, point_at}
 use Rattle.sphere_points.specs.Sphere.{latitude_of, longitude_of}
 use Rattle.sphere_points.specs.InnerSizes.{SmallPoint, squared_radius}
 
@@ -32,6 +33,10 @@ module _ (z : ℤ) {n : ℕ} (small : nat_abs z ≤ n) (room : n < 2 ^ 63) where
 
   pub sign_is : lt_z (back z) (pos 0) ≡ lt_z z (pos 0)
   sign_is = ap (λ (z : ℤ). lt_z z (pos 0)) (kept z small room)
+
+-- what a point of the code knows of its sizes
+pub point_small : (s : SpherePoint) → SmallPoint (point_at s.east s.z s.f)
+point_small s = record { east_size = s.east_size; z_size = s.z_size; f_size = s.f_size }
 
 -- root(east² + f²): how far the point is from the axis
 abbrev pub radius : Point → ℕ

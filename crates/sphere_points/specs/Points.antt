@@ -5,3 +5,6 @@ pub record Point : Type 0 where
   pub east : ℤ
   pub z : ℤ
   pub f : ℤ
+
+abbrev pub point_at : ℤ → ℤ → ℤ → Point
+point_at east z f = record { east = east; z = z; f = f }

@@ -7,6 +7,7 @@ ghost use Rattle.integers.specs.Root.{root};
 ghost use Rattle.units.specs.Units.{right_angle, half_turn};
 ghost use Rattle.constants.specs.InnerPrepared.{BoundedCentre};
 ghost use Rattle.azimuthal_forward.specs.Steps.{H as scale_of};
+ghost use Rattle.sphere_points.specs.Points.{point_at};
 ghost use Rattle.sphere_points.specs.Sphere.{versine_of, G, point_of, latitude_of, longitude_of};
 ghost use Rattle.sphere_points.specs.InnerSizes.{squared_radius};
 
@@ -16,7 +17,6 @@ use constants::Constants;
 use integers::{magnitude, near, signed};
 use latitudes::Authalic;
 use sine_table::SineTable;
-use std::marker::Model;
 use units::{HALF_TURN, UNIT};
 
 // 2 U: the versed sine of the point opposite to the centre.
@@ -29,22 +29,12 @@ const TWO_UNITS_DIVISOR: u64 = 2_000_000_000;
 // 64 bits.
 #[derive(Clone, Copy)]
 pub struct SpherePoint {
-    east: i64,
-    z: i64,
-    f: i64,
-}
-
-impl Model for SpherePoint {
-    ghost use Rattle.sphere_points.specs.Points.{Point};
-    ghost use Rattle.sphere_points.specs.InnerSizes.{SmallPoint};
-
-    ghost Value = { Point };
-
-    ghost view = { λ s. record { east = s.east; z = s.z; f = s.f } };
-
-    ghost invariant = { λ s. SmallPoint (record { east = s.east; z = s.z; f = s.f }) };
-
-    ghost inverse = { λ s. record { east = s.east; z = s.z; f = s.f } };
+    pub east: i64,
+    pub z: i64,
+    pub f: i64,
+    pub ghost east_size: { nat_abs east ≤ 2_000_000_000 },
+    pub ghost z_size: { nat_abs z ≤ 3_000_000_000 },
+    pub ghost f_size: { nat_abs f ≤ 3_000_000_000 },
 }
 
 // K = near((X² + Y²)/(2U)): the versed sine of the distance from the centre.
@@ -58,7 +48,7 @@ pub fn versine(x: i64, y: i64) -> i64
 // The point of the sphere of X, Y and K, with the H of that K.
 pub fn point(k: Constants, x: i64, y: i64, versed: i64, h: u64) -> SpherePoint
     requires { BoundedCentre k × (nat_abs x ≤ 2_000_000_000) × (nat_abs y ≤ 2_000_000_000) × (pos 0 ≤ℤ versed) × (nat_abs versed ≤ 1_980_000_000) × (h ≡ scale_of (G versed)) }
-    ensures { result ≡ point_of k x y versed }
+    ensures { point_at result.east result.z result.f ≡ point_of k x y versed }
 {
     let s0 = k.s0;
     let c0 = k.c0;
@@ -74,7 +64,7 @@ pub fn point(k: Constants, x: i64, y: i64, versed: i64, h: u64) -> SpherePoint
 
 // east² + f²: the square of a point's distance from the axis.
 pub fn squared_radius(s: SpherePoint) -> u64
-    ensures { result ≡ squared_radius s }
+    ensures { result ≡ squared_radius (point_at s.east s.z s.f) }
 {
     let east = magnitude(s.east);
     let f = magnitude(s.f);
@@ -83,8 +73,8 @@ pub fn squared_radius(s: SpherePoint) -> u64
 
 // β of a point whose distance from the axis is `radius`.
 pub fn latitude_of(t: &SineTable, s: SpherePoint, radius: u64) -> Authalic
-    requires { radius ≡ root (squared_radius s) }
-    ensures { result ≡ latitude_of s }
+    requires { radius ≡ root (squared_radius (point_at s.east s.z s.f)) }
+    ensures { result ≡ latitude_of (point_at s.east s.z s.f) }
 {
     let z = s.z;
     Authalic(signed(z < 0, angle(t, radius, magnitude(z))))
@@ -101,7 +91,7 @@ fn turned(far: bool, size: u64) -> u64
 
 // Δ of a point: |Δ| is taken from 180° where f is negative, then gets the sign of east.
 pub fn longitude_of(t: &SineTable, s: SpherePoint) -> i64
-    ensures { result ≡ longitude_of s }
+    ensures { result ≡ longitude_of (point_at s.east s.z s.f) }
 {
     let east = s.east;
     let f = s.f;

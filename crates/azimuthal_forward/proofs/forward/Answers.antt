@@ -7,13 +7,13 @@ use Rattle.azimuthal_forward.specs.Answer.{forward_of, plane_told}
 use Rattle.azimuthal_forward.proofs.AnswerLaws.{forward_tells, forward_set_refused}
 use Rattle.azimuthal_forward.proofs.forward.Goals as goal
 
-pub returns-in_err-projection : goal.returns-in_err-projection
-returns-in_err-projection c =
+pub returns-in_err-check : goal.returns-in_err-check
+returns-in_err-check c =
     let p = err_from_is_err_and c.from_residual.result c.from_residual.ensures.1 in
     rw (p.1, p.2)
-    (and_told plane_told (forward_tells _ _ _) (sym (forward_set_refused _ _ _ _ (number_some _) (sym c.in_err-projection.ensures.refused))))
+    (and_told plane_told (forward_tells _ _ _) (sym (forward_set_refused _ _ _ _ (number_some _) (sym c.in_err-check.ensures))))
 
 pub returns : goal.returns
 returns c =
     and_told plane_told (forward_tells _ _ _)
-    (c.forward_point.ensures ∙ ap₂ (λ p lon. forward_of p c.args.lat lon) c.in_ok-projection.ensures.same_set (to_z-of_z c.ranges.lon))
+    (c.forward_point.ensures ∙ ap₂ (λ p lon. forward_of p c.args.lat lon) c.of_accepted-projection.ensures (to_z-of_z c.ranges.lon))

@@ -8,15 +8,15 @@ use Rattle.azimuthal_inverse.specs.Answer.{inverse_of, geodetic_told}
 use Rattle.azimuthal_inverse.proofs.AnswerLaws.{inverse_tells, inverse_set_refused}
 use Rattle.azimuthal_inverse.proofs.inverse.Goals as goal
 
-pub returns-in_err-projection : goal.returns-in_err-projection
-returns-in_err-projection c =
+pub returns-in_err-check : goal.returns-in_err-check
+returns-in_err-check c =
     let p = err_from_is_err_and c.from_residual.result c.from_residual.ensures.1 in
     rw (p.1, p.2)
-    (and_told geodetic_told (inverse_tells _ _ _) (sym (inverse_set_refused _ _ _ _ (number_some _) (sym c.in_err-projection.ensures.refused))))
+    (and_told geodetic_told (inverse_tells _ _ _) (sym (inverse_set_refused _ _ _ _ (number_some _) (sym c.in_err-check.ensures))))
 
 pub returns : goal.returns
 returns c =
     and_told geodetic_told (inverse_tells _ _ _)
     (c.inverse_point.ensures
-    ∙ ap (λ p. inverse_of p (back c.args.easting) (back c.args.northing)) c.in_ok-projection.ensures.same_set
+    ∙ ap (λ p. inverse_of p (back c.args.easting) (back c.args.northing)) c.of_accepted-projection.ensures
     ∙ ap₂ (inverse_of c.args.p) (to_z-of_z c.ranges.easting) (to_z-of_z c.ranges.northing))

@@ -14,21 +14,21 @@ use Rattle.azimuthal_inverse.proofs.position.Goals as goal
 pub to_geodetic-requires : goal.to_geodetic-requires
 to_geodetic-requires c =
     let on = c.args.projection.now in
-    ((sound_as _ _ on.set_accepted on.of_set).small, rw c.latitude_of-beta.ensures (latitude_size c.args.s))
+    ((sound_as _ _ on.set_accepted on.of_set).small, rw c.latitude_of-beta.ensures (latitude_size _))
 
 pub overflow_add-projection : goal.overflow_add-projection
 overflow_add-projection c =
-    let Δ : nat_abs c.longitude_of-delta.result ≤ half_turn = rw c.longitude_of-delta.ensures (longitude_size c.args.s) in
+    let Δ : nat_abs c.longitude_of-delta.result ≤ half_turn = rw c.longitude_of-delta.ensures (longitude_size _) in
     fits (search (code, (accepted_fields _ c.args.projection.now.set_accepted).lon0_size, Δ) depth 40 fits 20000) tt
 
 pub wrap-requires : goal.wrap-requires
 wrap-requires c =
-    let Δ : nat_abs c.longitude_of-delta.result ≤ half_turn = rw c.longitude_of-delta.ensures (longitude_size c.args.s) in
+    let Δ : nat_abs c.longitude_of-delta.result ≤ half_turn = rw c.longitude_of-delta.ensures (longitude_size _) in
     rw as_size (read_size (search (code, (accepted_fields _ c.args.projection.now.set_accepted).lon0_size, Δ) depth 40 fits 20000) tt)
 
 pub returns : goal.returns
 returns c =
-    let Δ : nat_abs c.longitude_of-delta.result ≤ half_turn = rw c.longitude_of-delta.ensures (longitude_size c.args.s) in
+    let Δ : nat_abs c.longitude_of-delta.result ≤ half_turn = rw c.longitude_of-delta.ensures (longitude_size _) in
     let on = c.args.projection.now in
     ap₂ Position (c.to_geodetic.ensures ∙ ap (geodetic on.constants.series) c.latitude_of-beta.ensures)
     (returned c.wrap.type_inv

@@ -13,12 +13,12 @@ returns-in_err-check_lengths g c =
     let is : c.from_residual.result ≡ Err why = search rules in
     listed_refused c.from_residual.result why is (refused_by_lengths _ _ _ _ _ _ _ (number_some why) c.in_err-check_lengths.ensures)
 
-pub returns-in_err-projection : goal.returns-in_err-projection
-returns-in_err-projection g c =
-    let why = c.in_err-projection.field-0.0 in
-    let is : c.from_residual-in_err-projection.result ≡ Err why = search rules in
-    listed_refused c.from_residual-in_err-projection.result why is
-    (refused_by_set _ _ _ _ _ _ _ (sym c.in_ok-check_lengths.ensures) c.in_err-projection.ensures.refused)
+pub returns-in_err-check : goal.returns-in_err-check
+returns-in_err-check g c =
+    let why = c.in_err-check.field-0.0 in
+    let is : c.from_residual-in_err-check.result ≡ Err why = search rules in
+    listed_refused c.from_residual-in_err-check.result why is
+    (refused_by_set _ _ _ _ _ _ _ (sym c.in_ok-check_lengths.ensures) c.in_err-check.ensures)
 
 pub fill-requires : goal.fill-requires
 fill-requires g c = equal_lengths _ _ _ _ _ (sym c.in_ok-check_lengths.ensures)
@@ -26,7 +26,7 @@ fill-requires g c = equal_lengths _ _ _ _ _ (sym c.in_ok-check_lengths.ensures)
 pub returns : goal.returns
 returns g c =
     let points = λ (set : Parameters). rows (row_by g.D.Direction.stages set) c.args.xs.now c.args.ys.now in
-    let same : points c.in_ok-projection.projection.set ≡ points c.args.p = ap points c.in_ok-projection.ensures.same_set in
-    listed_count c.count_zeros.result (refused_by_set _ _ _ _ _ _ 0 (sym c.in_ok-check_lengths.ensures) c.in_ok-projection.ensures.refused)
+    let same : points c.of_accepted-projection.result.set ≡ points c.args.p = ap points c.of_accepted-projection.ensures in
+    listed_count c.count_zeros.result (refused_by_set _ _ _ _ _ _ 0 (sym c.in_ok-check_lengths.ensures) c.in_ok-check.ensures)
     (c.fill.ensures.leading_after ∙ ap first_values same) (c.fill.ensures.trailing_after ∙ ap second_values same) (c.fill.ensures.marks_after ∙ ap marks same)
     c.count_zeros.ensures

@@ -6,10 +6,10 @@ use Rattle.proof_kit.proofs.Range.{returned}
 use Rattle.integers.specs.Near.{signed}
 use Rattle.angles.specs.Angle.{angle}
 use Rattle.billionths.proofs.Calls.{back}
-use Rattle.sphere_points.specs.Points.{Point}
+use Rattle.sphere_points.specs.Points.{Point, point_at}
 use Rattle.sphere_points.specs.InnerSizes.{SmallPoint}
 use Rattle.sphere_points.specs.Sphere.{longitude_of}
-use Rattle.sphere_points.proofs.AngleLaws.{magnitude_is, sign_is, angle_size, turned, turn, turn_size}
+use Rattle.sphere_points.proofs.AngleLaws.{point_small, magnitude_is, sign_is, angle_size, turned, turn, turn_size}
 use Rattle.sphere_points.proofs.longitude_of.Goals as goal
 
 -- the size t of Δ, from the sizes m and n that the calls give of f and east, and a, their angle
@@ -25,14 +25,14 @@ turned-requires c = rw c.angle-near_side.ensures (angle_size _ _)
 
 pub signed-requires : goal.signed-requires
 signed-requires c =
-    rw (turned-is c.s.invariant c.magnitude.ensures c.magnitude-2.ensures c.angle-near_side.ensures c.turned.ensures)
-    (lt_of_le_of_lt (turn_size (record { east = c.s.inside.east; z = c.s.inside.z; f = c.s.inside.f })) (lit< tt))
+    rw (turned-is (point_small c.args.s) c.magnitude.ensures c.magnitude-2.ensures c.angle-near_side.ensures c.turned.ensures)
+    (lt_of_le_of_lt (turn_size (point_at c.args.s.east c.args.s.z c.args.s.f)) (lit< tt))
 
 pub returns : goal.returns
 unfolding longitude_of
 returns c =
-    rw (← c.s.view_is)
-    (returned c.signed.type_inv
+    let s = c.args.s in
+    returned c.signed.type_inv
     ∙ c.signed.ensures
-    ∙ ap₂ signed (sign_is c.s.inside.east c.s.invariant.east_size (lit< tt))
-    (turned-is c.s.invariant c.magnitude.ensures c.magnitude-2.ensures c.angle-near_side.ensures c.turned.ensures))
+    ∙ ap₂ signed (sign_is s.east s.east_size (lit< tt))
+    (turned-is (point_small s) c.magnitude.ensures c.magnitude-2.ensures c.angle-near_side.ensures c.turned.ensures)

@@ -93,9 +93,10 @@ pub invariant_of-result : goal.invariant_of-result
 unfolding point_of
 invariant_of-result c =
     let north = level-holds c.args.versed c.requires.3 c.requires.4 c.args.y c.requires.2 c.requires.5 c.product-north.type_inv c.product-north.ensures in
-    rw (
-      (level-holds c.args.versed c.requires.3 c.requires.4 c.args.x c.requires.1 c.requires.5 c.product.type_inv c.product.ensures).is,
-      z-read c.args.versed c.requires.3 c.requires.4 c.args.k c.requires.0 c.args.y north c.sum.type_inv c.sum.ensures,
-      f-read c.args.versed c.requires.3 c.requires.4 c.args.k c.requires.0 c.args.y north c.difference.type_inv c.difference.ensures,
-    )
-    (point_sized c.args.versed c.requires.3 c.requires.4 c.args.k c.requires.0 c.args.x c.args.y c.requires.1 c.requires.2)
+    let small = point_sized c.args.versed c.requires.3 c.requires.4 c.args.k c.requires.0 c.args.x c.args.y c.requires.1 c.requires.2 in
+    record {
+      east_size =
+          rw (level-holds c.args.versed c.requires.3 c.requires.4 c.args.x c.requires.1 c.requires.5 c.product.type_inv c.product.ensures).is small.east_size;
+      z_size = rw (z-read c.args.versed c.requires.3 c.requires.4 c.args.k c.requires.0 c.args.y north c.sum.type_inv c.sum.ensures) small.z_size;
+      f_size = rw (f-read c.args.versed c.requires.3 c.requires.4 c.args.k c.requires.0 c.args.y north c.difference.type_inv c.difference.ensures) small.f_size;
+    }
