@@ -1,2 +1,3 @@
+pub mod Carrying
 pub mod Splitting
 pub mod Theorems

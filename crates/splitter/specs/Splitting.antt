@@ -1,9 +1,10 @@
 -- Document 01, "The program": "A newline ends a line; the last may lack it." Input comes in pieces.
-use Rattle.std.specs.Prelude.{ℕ, cond, List, [], ◌∷◌, ◌++◌, eqb, take}
+use Rattle.std.specs.Prelude.{ℕ, cond, List, [], ◌∷◌, ◌++◌, eqb, length, take}
 use Rattle.requests.specs.Requests.{most_kept}
 use Rattle.text.specs.Ascii.{newline}
 use Rattle.lines.specs.Lines.{answer_line}
-use Rattle.arrayvec.specs.ArrayVec.{ArrayVec}
+use Rattle.splitter.specs.Carrying.{padded, kept_carried}
+use Rattle.splitter.specs.declared.part.Carried.{Carried}
 
 -- Where `part` of a line has come already: the lines that a piece of input ends, and the part of a line that is left after it.
 abbrev pub ended_lines : List ℕ → List ℕ → List (List ℕ)
@@ -50,13 +51,10 @@ abbrev pub joined : List (List ℕ) → List ℕ
 joined [] = []
 joined (piece ∷ pieces) = piece ++ joined pieces
 
--- What is carried of a part: its kept bytes. Its type in src/ has room for no more.
-abbrev pub Carried : Type 0
-Carried = ArrayVec ℕ
-
-abbrev pub carried_of : List ℕ → Carried
-carried_of part = record { items = kept part }
+-- how a part is carried: its kept bytes, zeros after them in the array, and their number
+unfoldable pub carried_of : List ℕ → Carried
+carried_of part = record { bytes = padded (kept part); len = length (kept part); is_carried = kept_carried part }
 
 -- the part that is carried
 abbrev pub part_of : Carried → List ℕ
-part_of c = c.items
+part_of c = take c.len c.bytes

@@ -2,20 +2,19 @@
 // not end is carried to the next.
 #![tactic(auto)]
 
+mod part;
+
 ghost use Rattle.std.specs.Prelude.{◌≡◌, [], ◌++◌, ◌+◌, ◌*◌, ◌≤◌, length};
 ghost use Rattle.text.specs.Pasting.{Put};
 ghost use Rattle.parameters.specs.ParameterSet.{etrs_laea};
 ghost use Rattle.lines.specs.Lines.{answer_line, answer_most};
 ghost use Rattle.splitter.specs.Splitting.{ended_lines, part_left, last_line, answers_of, carried_of, part_of};
 
-use arrayvec::ArrayVec;
 use constants::projection::Projection;
 use lines::{ANSWER_MOST, answer_at};
+pub use part::Carried;
 use requests::KEPT_MOST;
-use text::split_once;
-
-// The part of a line that has come so far: those of its bytes that decide its answer.
-pub type Carried = ArrayVec<u8, KEPT_MOST>;
+use text::{put_bytes, split_once};
 
 // The part of a line that a piece does not end, and where the answers before it end.
 #[derive(Clone, Copy)]
@@ -27,15 +26,18 @@ struct Answered<'a> {
 pub fn nothing_carried() -> Carried
     ensures { result ≡ carried_of [] }
 {
-    ArrayVec::new()
+    Carried {
+        bytes: [0; KEPT_MOST],
+        len: 0,
+    }
 }
 
 // Adds bytes to what is carried, as many as are kept.
 fn carry(carried: &mut Carried, part: &[u8])
     ensures { carried.new ≡ carried_of (part_of carried.old ++ part.now) }
 {
-    let n = part.len().min(carried.remaining_capacity());
-    carried.try_extend_from_slice(&part[..n]).unwrap();
+    let n = part.len().min(KEPT_MOST - carried.len);
+    carried.len = put_bytes(&mut carried.bytes, carried.len, &part[..n]);
 }
 
 // Answers the line that `part` ends, after which nothing is carried. Where nothing was, the line stands
@@ -51,7 +53,7 @@ fn answer_first(
     ensures put { Put out.old 0 (answer_line (part_of carried.old ++ part.now)) out.new result }
     ensures nothing { carried.new ≡ carried_of [] }
 {
-    if carried.is_empty() {
+    if carried.len == 0 {
         return answer_at(projection, part, out, 0);
     }
     carry(carried, part);

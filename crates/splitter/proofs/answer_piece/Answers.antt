@@ -1,11 +1,12 @@
 -- `splitter::answer_piece` meets its contract. Where the piece has a newline, the line that it ends is answered, then the lines after it, and what is
 -- left after the last newline is carried; where it has none, all of it joins what is carried and nothing is answered. Assumes nothing.
-use Rattle.std.proofs.Common.{◌≡◌, List, ℕ, ◌++◌, ◌∙◌, sym, ap, length, rules}
+use Rattle.std.proofs.Common.{◌≡◌, List, [], ℕ, ◌++◌, ◌∙◌, sym, ap, length, rules}
 use mathlib.Core.Path.{ap₂}
 use Rattle.text.specs.Ascii.{newline}
 use Rattle.text.specs.Cutting.{index_of, IsCut}
 use Rattle.text.proofs.Pasting.{put_as, put_none}
 use Rattle.splitter.specs.Splitting.{carried_of, part_of}
+use Rattle.splitter.proofs.Carrying.{carried_kept}
 use Rattle.splitter.proofs.Answering.{next_left, no_answers, all_left, room_after, piece_answered}
 use Rattle.splitter.proofs.answer_piece.Goals as goal
 
@@ -33,4 +34,4 @@ pub returns-clause-carried_value : goal.returns-clause-carried_value
 returns-clause-carried_value c =
     let cut : IsCut newline c.args.piece.now c.in-Some.end.now c.in-Some.rest.now = search rules in
     let left = c.answer_lines-answered.ensures.rest ∙ sym (next_left cut (part_of c.args.carried.now)) in
-    c.carry-2.ensures ∙ ap carried_of (ap₂ (λ (p q : List ℕ). p ++ q) (ap part_of c.answer_first-written.ensures.nothing) left)
+    c.carry-2.ensures ∙ ap carried_of (ap₂ (λ (p q : List ℕ). p ++ q) (ap part_of c.answer_first-written.ensures.nothing ∙ carried_kept []) left)
