@@ -1,6 +1,7 @@
 // Texts that are read.
-ghost use Rattle.std.specs.Prelude.{◌≡◌, IsTrue, ◌↔◌};
-ghost use Rattle.code_reading.specs.Reading.{code_answer, code_of};
+ghost use Rattle.std.specs.Prelude.{◌≡◌, IsTrue, ◌↔◌, pos};
+ghost use Rattle.cells.specs.Cells.{side_length};
+ghost use Rattle.code_reading.specs.Reading.{Cell, Unread, code_answer, code_of};
 
 use cells::Side;
 use code_reading::{CodeCell, read_code};
@@ -37,8 +38,10 @@ fn row(rt: &impl Print, text: &str, right: Answer) -> bool
     verdict(rt, found == right)
 }
 
-fn code(rt: &impl Print, text: &str, side: Side, east: i64, north: i64) {
-    row(rt, text, Ok(CodeCell { side, east, north }));
+fn code(rt: &impl Print, text: &str, side: Side, east: i64, north: i64) -> bool
+    ensures { IsTrue result ↔ (code_of text.now ≡ Cell (pos (side_length side)) east north) }
+{
+    row(rt, text, Ok(CodeCell { side, east, north }))
 }
 
 pub(crate) fn codes(rt: &impl Print) {
@@ -49,8 +52,10 @@ pub(crate) fn codes(rt: &impl Print) {
     code(rt, "10kmN5000E5000", Side::Kilometres10, 5_000, 5_000);
 }
 
-fn not_a_code(rt: &impl Print, text: &str) {
-    row(rt, text, Err(Refusal::NotACode));
+fn not_a_code(rt: &impl Print, text: &str) -> bool
+    ensures { IsTrue result ↔ (code_of text.now ≡ Unread 31) }
+{
+    row(rt, text, Err(Refusal::NotACode))
 }
 
 // Bytes that name no side, or that are no cell number; one past the largest is none.

@@ -7,11 +7,16 @@ use Rattle.units.specs.declared.refusals.Refusal.{Refusal}
 use Rattle.units.specs.Refusals.{number}
 use Rattle.units.specs.Answers.{Told, accepted, refused}
 use Rattle.gaps.specs.declared.Gaps.{Gaps}
+use Rattle.gaps.specs.declared.Told.{Told as GivenTold}
 
 -- what an answer tells: its two values, or its refusal number
 abbrev pub told : Result (ℤ × ℤ) Refusal → Told
 told (Ok values) = accepted values.0 values.1
 told (Err refusal) = refused (number refusal)
+
+-- what is told, by its three numbers
+abbrev pub told_of : GivenTold → Told
+told_of given = record { refusal = given.refusal; first = given.first; second = given.second }
 
 -- the sizes of the differences, in the answers' own units
 abbrev pub gaps_of : Told → Told → Gaps

@@ -4,7 +4,7 @@
 
 ghost use Rattle.std.specs.Prelude.{◌≡◌, ◌<◌, ◌≤◌, eqb};
 ghost use Rattle.units.specs.Units.{unit};
-ghost use Rattle.gaps.specs.InnerGaps.{told, gaps_of, part, on_ground, is_right};
+ghost use Rattle.gaps.specs.InnerGaps.{told, told_of, gaps_of, part, on_ground, is_right};
 
 use integers::{magnitude, nearest};
 use units::UNIT_DIVISOR;
@@ -13,6 +13,33 @@ use units::refusals::Refusal;
 // An answer in whole numbers: latitude and longitude, easting and northing, or the two numbers of a cell.
 pub type Answer = Result<(i64, i64), Refusal>;
 
+// What an answer tells: its refusal number, 0 where it is accepted; then its two values, 0 and 0 where it is refused.
+#[derive(Clone, Copy)]
+pub struct Told {
+    pub refusal: u8,
+    pub first: i64,
+    pub second: i64,
+}
+
+impl From<Answer> for Told {
+    ghost from_gives = { λ answer given. told_of given ≡ told answer };
+
+    fn from(answer: Answer) -> Told {
+        match answer {
+            Ok((first, second)) => Told {
+                refusal: 0,
+                first,
+                second,
+            },
+            Err(refusal) => Told {
+                refusal: refusal.number(),
+                first: 0,
+                second: 0,
+            },
+        }
+    }
+}
+
 // The sizes of the differences of two pairs of values.
 #[derive(Clone, Copy, Debug, PartialEq, Eq)]
 pub struct Gaps {
@@ -20,15 +47,12 @@ pub struct Gaps {
     pub second: u64,
 }
 
-// The gaps of two answers; one that is refused counts as 0, 0.
-pub fn gaps_of(found: Answer, right: Answer) -> Gaps
-    ensures { result ≡ gaps_of (told found) (told right) }
+pub fn gaps_of(found: Told, right: Told) -> Gaps
+    ensures { result ≡ gaps_of (told_of found) (told_of right) }
 {
-    let found = found.unwrap_or((0, 0));
-    let right = right.unwrap_or((0, 0));
     Gaps {
-        first: found.0.abs_diff(right.0),
-        second: found.1.abs_diff(right.1),
+        first: found.first.abs_diff(right.first),
+        second: found.second.abs_diff(right.second),
     }
 }
 
@@ -61,16 +85,16 @@ pub fn on_ground(radius: i64, cosine: i64, off: Gaps) -> Gaps
     }
 }
 
-// Whether both are accepted, or both refused for one reason.
-fn are_refused_alike(found: Answer, right: Answer) -> bool
-    ensures { result ≡ eqb (told found).refusal (told right).refusal }
+// Whether both are accepted, or both refused by one number.
+fn are_refused_alike(found: Told, right: Told) -> bool
+    ensures { result ≡ eqb (told_of found).refusal (told_of right).refusal }
 {
-    found.err() == right.err()
+    found.refusal == right.refusal
 }
 
 // Whether an answer that is off by this is the one expected, with at most so much in either value.
-pub fn is_right(found: Answer, right: Answer, off: Gaps, most: u64) -> bool
-    ensures { result ≡ is_right (told found) (told right) off most }
+pub fn is_right(found: Told, right: Told, off: Gaps, most: u64) -> bool
+    ensures { result ≡ is_right (told_of found) (told_of right) off most }
 {
     are_refused_alike(found, right) && off.first <= most && off.second <= most
 }

@@ -5,8 +5,11 @@ use Rattle.floats.specs.Limits.{is_finite}
 use Rattle.units.specs.Refusals.{number}
 use Rattle.units.specs.declared.refusals.Refusal.{Refusal}
 use Rattle.pairs.specs.Pairs.{Row, accepted_row, refused_row}
-use Rattle.point_lists.specs.Lists.{ListAnswer, list_told}
+use Rattle.point_lists.specs.Lists.{ListAnswer, Count, Refused, list_told}
 use Rattle.judging.specs.declared.doubles.Digest.{Digest}
+use Rattle.judging.specs.declared.doubles.Element.{Element}
+use Rattle.judging.specs.declared.doubles.ListAnswer.{ListAnswer as GivenAnswer}
+use Rattle.judging.specs.declared.doubles.ListAnswer.TheVariants.{Count as GivenCount, Refused as GivenRefusal}
 
 -- a finite double's bits; what is not finite has one pattern, which is none of theirs
 abbrev pub bits_of : Float → ℕ
@@ -22,10 +25,19 @@ alike found right =
 abbrev pub same_bits : Float × Float → Float × Float → Bool
 same_bits found right = bits_of found.0 == bits_of right.0 && bits_of found.1 == bits_of right.1
 
+-- an element, as a list holds it
+abbrev pub element_row : Element → Row
+element_row element = record { mark = element.mark; first = element.values.0; second = element.values.1 }
+
 -- an answer as a list holds it
 abbrev pub row_told : Result (Float × Float) Refusal → Row
 row_told (Ok values) = accepted_row values.0 values.1
 row_told (Err refusal) = refused_row (number refusal)
+
+-- a list call's answer by its count or its number
+abbrev pub answer_of : GivenAnswer → ListAnswer
+answer_of (GivenCount count) = Count count
+answer_of (GivenRefusal number) = Refused number
 
 -- what a list call's answer tells: its refusal number and its count
 abbrev pub is_told : ListAnswer → ℕ → ℕ → Bool

@@ -1,7 +1,7 @@
 // Holds doubles, rows and lists to those expected, by their bits.
 ghost use Rattle.std.specs.Prelude.{◌≡◌, ◌&&◌, map, ◌==◌};
 ghost use Rattle.point_lists.specs.Lists.{list_answered, list_told};
-ghost use Rattle.judging.specs.InnerDoubles.{bits_of, same_bits, row_told, alike, is_told, digest_with, digest_with_all, digest_of};
+ghost use Rattle.judging.specs.InnerDoubles.{bits_of, same_bits, element_row, row_told, alike, answer_of, is_told, digest_with, digest_with_all, digest_of};
 
 use floats::is_finite;
 use units::refusals::Refusal;
@@ -28,25 +28,71 @@ pub fn have_same_bits(found: (f64, f64), right: (f64, f64)) -> bool
     bits(found.0) == bits(right.0) && bits(found.1) == bits(right.1)
 }
 
-// Whether two answers have the same refusal number, or values alike in every bit.
-pub fn are_alike(found: Result<(f64, f64), Refusal>, right: Result<(f64, f64), Refusal>) -> bool
-    ensures { result ≡ alike (row_told found) (row_told right) }
+// An element of the lists that a call fills: its mark, 0 or a refusal number, and its two values.
+#[derive(Clone, Copy)]
+pub struct Element {
+    pub mark: u8,
+    pub values: (f64, f64),
+}
+
+// As a call fills the lists for an answer.
+impl From<Result<(f64, f64), Refusal>> for Element {
+    ghost from_gives = { λ answer given. element_row given ≡ row_told answer };
+
+    fn from(answer: Result<(f64, f64), Refusal>) -> Element {
+        match answer {
+            Ok(values) => Element { mark: 0, values },
+            Err(refusal) => Element {
+                mark: refusal.number(),
+                values: (0.0, 0.0),
+            },
+        }
+    }
+}
+
+// Whether two elements have the same mark, and values alike in every bit.
+pub fn are_alike(found: Element, right: Element) -> bool
+    ensures { result ≡ alike (element_row found) (element_row right) }
 {
-    match (found, right) {
-        (Ok(values), Ok(expected)) => have_same_bits(values, expected),
-        (Err(refusal), Err(expected)) => refusal.number() == expected.number(),
-        _ => false,
+    found.mark == right.mark && have_same_bits(found.values, right.values)
+}
+
+// What a list call answers: its count, or its refusal number.
+#[derive(Clone, Copy)]
+pub enum ListAnswer {
+    Count(u64),
+    Refused(u8),
+}
+
+impl From<Result<u64, Refusal>> for ListAnswer {
+    ghost from_gives = { λ answer given. answer_of given ≡ list_answered answer };
+
+    fn from(answer: Result<u64, Refusal>) -> ListAnswer {
+        match answer {
+            Ok(count) => ListAnswer::Count(count),
+            Err(refusal) => ListAnswer::Refused(refusal.number()),
+        }
+    }
+}
+
+// Whether a list call answered with this refusal number, 0 for none, and this count, 0 where it is refused.
+pub fn is_told(answer: ListAnswer, refusal: u8, count: u64) -> bool
+    ensures { result ≡ is_told (answer_of answer) refusal count }
+{
+    match answer {
+        ListAnswer::Count(found) => 0 == refusal && found == count,
+        ListAnswer::Refused(number) => number == refusal && 0 == count,
     }
 }
 
 // Whether a list call answered with the refusal or the count expected.
-pub fn is_told(answer: Result<u64, Refusal>, right: Result<u64, Refusal>) -> bool
+pub fn is_answered(answer: Result<u64, Refusal>, right: Result<u64, Refusal>) -> bool
     ensures { result ≡ is_told (list_answered answer) (list_told (list_answered right)).refusal (list_told (list_answered right)).count }
 {
-    match (answer, right) {
-        (Ok(count), Ok(expected)) => count == expected,
-        (Err(refusal), Err(expected)) => refusal.number() == expected.number(),
-        _ => false,
+    let answer = ListAnswer::from(answer);
+    match right {
+        Ok(count) => is_told(answer, 0, count),
+        Err(refusal) => is_told(answer, refusal.number(), 0),
     }
 }
 

@@ -11,7 +11,7 @@ ghost use Rattle.point_vectors.specs.InnerRows.{is_forward};
 ghost use Rattle.point_vectors.specs.InnerLists.{room, WithinRoom, numbers_of, marks_of, steps_of, outcome, outcome_of, untouched_digest, is_counted, is_refused};
 
 use crate::point_rows::Direction;
-use judging::doubles::{Digest, digest_of, is_told};
+use judging::doubles::{Digest, digest_of, is_answered};
 use parameters::Parameters;
 use point_lists::{forward_list, inverse_list};
 use printing::{Shown, verdict};
@@ -167,7 +167,7 @@ pub(crate) fn count_row(
     ensures { result ≡ is_told (list_answered answer) 0 right }
 {
     show(rt, name, direction, answer, Ok(right));
-    is_told(answer, Ok(right))
+    is_answered(answer, Ok(right))
 }
 
 // Lists of n points of ETRS-LAEA; all are accepted.
@@ -215,6 +215,6 @@ pub(crate) fn list_refused(
     let _ = print!(rt; ", outputs untouched");
     verdict(
         rt,
-        is_told(found.answer, right) && found.digest == untouched(),
+        is_answered(found.answer, right) && found.digest == untouched(),
     )
 }

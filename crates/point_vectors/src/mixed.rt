@@ -1,65 +1,55 @@
 // Lists with every refusal of a point in them, element by element.
-ghost use Rattle.std.specs.Prelude.{◌≡◌};
-ghost use Rattle.judging.specs.InnerDoubles.{alike, row_told};
-ghost use Rattle.point_vectors.specs.InnerRows.{element_row};
+ghost use Rattle.std.specs.Prelude.{◌≡◌, ◌<◌};
+ghost use Rattle.row_lists.specs.InnerRows.{row_at};
+ghost use Rattle.judging.specs.InnerDoubles.{alike, element_row, row_told};
 
 use crate::doubles::Pair;
 use crate::list_rows::{MARK, NUMBER, count_row, run};
 use crate::point_rows::Answer;
 use crate::point_rows::Direction::{self, Forward, Inverse};
-use judging::doubles::have_same_bits;
+use judging::doubles::{Element, are_alike};
 use parameters::Parameters;
 use printing::verdict;
 use std::fmt;
 use units::refusals::Refusal;
 
-// An element of the lists that a call fills: its mark, 0 or a refusal number, and its two values.
+// An element as a row shows it.
 #[derive(Clone, Copy)]
-struct Element {
-    mark: u8,
-    values: (f64, f64),
-}
+struct Shown(Element);
 
-impl Element {
-    // As a call fills the lists for this answer.
-    fn of(answer: Answer) -> Element
-        ensures { element_row result ≡ row_told answer }
-    {
-        match answer {
-            Ok(values) => Element { mark: 0, values },
-            Err(refusal) => Element {
-                mark: refusal.number(),
-                values: (0.0, 0.0),
-            },
-        }
-    }
-
-    // Whether it is this one, in every bit.
-    fn is(self, right: Element) -> bool
-        ensures { result ≡ alike (element_row self) (element_row right) }
-    {
-        self.mark == right.mark && have_same_bits(self.values, right.values)
-    }
-}
-
-impl fmt::Display for Element {
+impl fmt::Display for Shown {
     fn fmt<W: fmt::Write>(&self, f: &mut fmt::Formatter<W>) -> fmt::Result {
-        match *self {
+        match self.0 {
             Element { mark: 0, values } => write!(f, "{}", Pair(values)),
             Element { mark, .. } => write!(f, "refused {mark}"),
         }
     }
 }
 
+type Numbers = [f64; 8];
+
+// The element at a place of three lists.
+fn element_at(i: usize, marks: &[u8; 8], leading: &Numbers, trailing: &Numbers) -> Element
+    requires { i < 8 }
+    ensures { element_row result ≡ row_at i leading.now trailing.now marks.now }
+{
+    Element {
+        mark: marks[i],
+        values: (leading[i], trailing[i]),
+    }
+}
+
 fn element_line(rt: &impl Print, place: usize, found: Element, right: Answer) -> bool
     ensures { result ≡ alike (element_row found) (row_told right) }
 {
-    let right = Element::of(right);
-    let _ = print!(rt; "   element {place}: {found}, expected {right}");
-    verdict(rt, found.is(right))
+    let right = Element::from(right);
+    let shown = Shown(found);
+    let expected = Shown(right);
+    let _ = print!(rt; "   element {place}: {shown}, expected {expected}");
+    verdict(rt, are_alike(found, right))
 }
 
-fn list(rt: &impl Print, direction: Direction, xs: &[f64; 8], ys: &[f64; 8], right: [Answer; 8]) {
+fn list(rt: &impl Print, direction: Direction, xs: &Numbers, ys: &Numbers, right: [Answer; 8]) {
     let mut leading = [NUMBER; 8];
     let mut trailing = [NUMBER; 8];
     let mut marks = [MARK; 8];
@@ -74,10 +64,9 @@ fn list(rt: &impl Print, direction: Direction, xs: &[f64; 8], ys: &[f64; 8], rig
         &mut marks,
     );
     verdict(rt, count_row(rt, "mixed list", direction, found, 2));
-    let values = leading.into_iter().zip(trailing);
-    let elements = marks.into_iter().zip(values).zip(right);
-    for (place, ((mark, values), right)) in elements.enumerate() {
-        element_line(rt, place, Element { mark, values }, right);
+    for place in 0..8 {
+        let element = element_at(place, &marks, &leading, &trailing);
+        element_line(rt, place, element, right[place]);
     }
 }
 

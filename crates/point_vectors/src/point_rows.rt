@@ -6,7 +6,7 @@ ghost use Rattle.row_lists.specs.InnerRows.{row_of};
 ghost use Rattle.point_vectors.specs.InnerRows.{is_forward};
 
 use crate::doubles::{Bits, Pair};
-use judging::doubles::are_alike;
+use judging::doubles::{Element, are_alike};
 use pairs::{GeodeticPair, PlanePair};
 use parameters::Parameters;
 use points::{forward_degrees, inverse_metres};
@@ -75,5 +75,5 @@ pub(crate) fn row(
     let _ = print!(rt; "{name} {direction} {} {}", Bits(x), Bits(y));
     let found = answer(direction, p, x, y);
     show(rt, found, right);
-    verdict(rt, are_alike(found, right))
+    verdict(rt, are_alike(Element::from(found), Element::from(right)))
 }

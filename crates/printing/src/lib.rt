@@ -16,10 +16,17 @@ pub fn verdict(rt: &impl Print, right: bool) -> bool
 }
 
 // Line k of a text, counted from 0, without its end; past the last line nothing.
-pub fn line(text: &str, k: usize) -> &str
+pub fn line(text: &[u8], k: usize) -> &[u8]
     ensures { result.now ≡ line_of k text.now }
 {
-    text.split('\n').nth(k).unwrap_or("")
+    text.split(|b| *b == b'\n').nth(k).unwrap_or(&[])
+}
+
+// The same of a text in UTF-8, whose lines are in UTF-8 too.
+pub fn text_line(text: &str, k: usize) -> &str
+    ensures { result.now ≡ line_of k text.now }
+{
+    str::from_utf8(line(text.as_bytes(), k)).unwrap_or("")
 }
 
 // An answer as a row shows it: what is given, or the refusal.

@@ -4,7 +4,7 @@ use crate::rows::Question::{Forward, Inverse};
 use crate::rows::{refused_row, there_and_back};
 use latitudes::Geodetic;
 use parameters::Parameters;
-use printing::line;
+use printing::text_line;
 use std::fmt;
 use units::refusals::Refusal;
 
@@ -85,7 +85,7 @@ impl Field {
 
 impl fmt::Display for Field {
     fn fmt<W: fmt::Write>(&self, f: &mut fmt::Formatter<W>) -> fmt::Result {
-        f.write_str(line(NAMES, *self as usize))
+        f.write_str(text_line(NAMES, *self as usize))
     }
 }
 

@@ -9,7 +9,7 @@ ghost use Rattle.vectors.specs.InnerRows.{told_by, is_near, is_near_on_ground};
 use crate::rows::Question::{Forward, Inverse};
 use azimuthal_forward::forward;
 use azimuthal_inverse::inverse;
-use gaps::{Answer, Gaps, gaps_of, is_right, on_ground};
+use gaps::{Answer, Gaps, Told, gaps_of, is_right, on_ground};
 use latitudes::Geodetic;
 use parameters::Parameters;
 use printing::verdict;
@@ -98,7 +98,8 @@ pub(crate) fn row(
 ) -> bool
     ensures { result ≡ is_near most (told_by p question) (told right) }
 {
-    let found = run(rt, name, p, question, right);
+    let found = Told::from(run(rt, name, p, question, right));
+    let right = Told::from(right);
     let off = gaps_of(found, right);
     show_gaps(rt, off, question.unit(), most);
     verdict(rt, is_right(found, right, off, most))
@@ -116,7 +117,8 @@ pub(crate) fn ground_row(
 ) -> bool
     ensures { result ≡ is_near_on_ground p.a cosine most (told_by p question) (told right) }
 {
-    let found = run(rt, name, p, question, right);
+    let found = Told::from(run(rt, name, p, question, right));
+    let right = Told::from(right);
     let off = on_ground(p.a, cosine, gaps_of(found, right));
     show_gaps(rt, off, "cm on the ground", most);
     verdict(rt, is_right(found, right, off, most))
@@ -132,7 +134,8 @@ pub(crate) fn refused_row(
     ensures { result ≡ is_near 0 (told_by p question) (refused (number refusal)) }
 {
     let right = Err(refusal);
-    let found = run(rt, name, p, question, right);
+    let found = Told::from(run(rt, name, p, question, right));
+    let right = Told::from(right);
     verdict(rt, is_right(found, right, gaps_of(found, right), 0))
 }
 
