@@ -89,7 +89,7 @@ unread_exactly text = (there, λ h. unread text (λ side east north e. let is = 
         absurd (omega arith)
 
 -- A text that is longer than every code is none.
-long_unread : (text : List ℕ) → 18 < length text → code_of text ≡ Unread not_a_code
+pub long_unread : (text : List ℕ) → 18 < length text → code_of text ≡ Unread not_a_code
 long_unread text long = unread text too_long
   where
     too_long : (side east north : ℤ) → code_of text ≡ Cell side east north → ⊥

@@ -18,7 +18,7 @@ nothing_read side = refl
 -- ---- the numbers
 
 module _ (side : ℤ) (text : List ℕ) where
-  east_none : cell_numeral side (after byte_E text) ≡ Other → numbers_of side text ≡ Unread not_a_code
+  pub east_none : cell_numeral side (after byte_E text) ≡ Other → numbers_of side text ≡ Unread not_a_code
   unfolding numbers_of
   east_none e = ap (λ (x : Numeral). of_numbers side x (cell_numeral side (up_to byte_E text))) e
 
@@ -30,7 +30,7 @@ module _ (side : ℤ) (text : List ℕ) where
       either (Number east) = refl
       either Other = refl
 
-  nothing_after : after byte_E text ≡ [] → numbers_of side text ≡ Unread not_a_code
+  pub nothing_after : after byte_E text ≡ [] → numbers_of side text ≡ Unread not_a_code
   nothing_after e = east_none (ap (cell_numeral side) e ∙ nothing_read side)
 
   pub numbers_uncut : index_of byte_E text ≡ length text → numbers_of side text ≡ Unread not_a_code
@@ -43,10 +43,13 @@ module _ (text : List ℕ) where
   unfolding code_of
   unnamed e = ap (λ (m : Numeral). of_side m (after byte_N text)) e
 
-  pub code_uncut : index_of byte_N text ≡ length text → code_of text ≡ Unread not_a_code
+  pub no_numbers : after byte_N text ≡ [] → code_of text ≡ Unread not_a_code
   unfolding code_of
-  code_uncut none = ap (of_side (side_named (up_to byte_N text))) (no_cut byte_N text _ refl none) ∙ either (side_named (up_to byte_N text))
+  no_numbers e = ap (of_side (side_named (up_to byte_N text))) e ∙ either (side_named (up_to byte_N text))
     where
       either : (m : Numeral) → of_side m [] ≡ Unread not_a_code
       either (Number side) = nothing_after side [] refl
       either Other = refl
+
+  pub code_uncut : index_of byte_N text ≡ length text → code_of text ≡ Unread not_a_code
+  code_uncut none = no_numbers (no_cut byte_N text _ refl none)

@@ -2,7 +2,7 @@
 #![tactic(auto)]
 
 ghost use Rattle.std.specs.Prelude.{◌≡◌, pos};
-ghost use Rattle.cells.specs.Cells.{side_length};
+ghost use Rattle.cells.specs.Cells.{top, side_length};
 ghost use Rattle.text.specs.Numbers.{numeral};
 ghost use Rattle.code_reading.specs.Reading.{
   side_named,
@@ -18,7 +18,8 @@ ghost use Rattle.code_reading.specs.Reading.{
 
 use cells::Side;
 use grid_codes::CODE_MOST;
-use text::{has_leading_zero, read_unsigned, split_once};
+use memchr::memchr;
+use text::{has_leading_zero, read_unsigned};
 use units::refusals::Refusal;
 
 // A cell: its side, and its numbers along the two axes.
@@ -45,45 +46,43 @@ fn side_named(text: &[u8]) -> Option<Side>
     }
 }
 
-// The number of a cell along an axis, from its digits.
+// The number of a cell along an axis, from its digits, where the side of the cell has this top number.
 #[tactic(auto, unfolding(crate::specs::Reading::cell_numeral))]
-fn read_cell_number(side: Side, digits: &[u8]) -> Option<i64>
+fn read_cell_number(side: Side, most: i64, digits: &[u8]) -> Option<i64>
+    requires { most ≡ pos (top (side_length side)) }
     ensures { numeral result ≡ cell_numeral (pos (side_length side)) digits.now }
 {
     if has_leading_zero(digits) {
         return None;
     }
     let number = read_unsigned(false, digits)?;
-    if number <= side.top_number() {
-        Some(number)
-    } else {
-        None
-    }
+    if number <= most { Some(number) } else { None }
 }
 
-// The cell of a side and of the text after its N.
-#[tactic(auto, using(crate::proofs::ReadingLaws::north_none, crate::proofs::ReadingLaws::numbers_uncut), unfolding(crate::specs::Reading::numbers_of))]
+// The cell of a side and of the text after its N. One division gives the top number for both of the cell's numbers.
+#[tactic(auto, using(text::proofs::Searching::cut_found, text::proofs::Searching::index_missing, crate::proofs::ReadingLaws::north_none, crate::proofs::ReadingLaws::numbers_uncut), unfolding(crate::specs::Reading::numbers_of))]
 fn read_numbers(side: Side, text: &[u8]) -> Option<CodeCell>
     ensures { code_found result ≡ numbers_of (pos (side_length side)) text.now }
 {
-    let (north, east) = split_once(text, b'E')?;
+    let at = memchr(b'E', text)?;
+    let most = side.top_number();
     Some(CodeCell {
         side,
-        north: read_cell_number(side, north)?,
-        east: read_cell_number(side, east)?,
+        north: read_cell_number(side, most, &text[..at])?,
+        east: read_cell_number(side, most, &text[at + 1..])?,
     })
 }
 
 // The cell whose code a text is. No more bytes are looked at than a code may have.
-#[tactic(auto, using(crate::proofs::AnswerLaws::long_answered, crate::proofs::ReadingLaws::unnamed, crate::proofs::ReadingLaws::code_uncut), unfolding(crate::specs::Reading::code_of))]
+#[tactic(auto, using(text::proofs::Searching::cut_found, text::proofs::Searching::index_missing, crate::proofs::AnswerLaws::long_answered, crate::proofs::ReadingLaws::unnamed, crate::proofs::ReadingLaws::code_uncut), unfolding(crate::specs::Reading::code_of))]
 fn find_cell(text: &[u8]) -> Option<CodeCell>
     ensures { code_found result ≡ code_of text.now }
 {
     if CODE_MOST < text.len() {
         return None;
     }
-    let (side, numbers) = split_once(text, b'N')?;
-    read_numbers(side_named(side)?, numbers)
+    let at = memchr(b'N', text)?;
+    read_numbers(side_named(&text[..at])?, &text[at + 1..])
 }
 
 // Any bytes: the customer's call that reads a cell's code.

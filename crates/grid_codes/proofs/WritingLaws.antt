@@ -5,7 +5,7 @@ use Prim.Native.Nat.{ℕ, zero, suc, ◌<◌, ◌≤◌}
 use native.Mathlib.Omega.{arith}
 use borrow.Author.Tests.{le-leb, lt-leb}
 use lib.Dec.{leb}
-use lib.IntN.{ℤ, pos}
+use lib.IntN.{ℤ, pos, nat_abs}
 use lib.ListN.{length}
 use Rattle.units.specs.declared.refusals.Refusal.{Refusal}
 use Rattle.units.specs.Refusals.{out_of_limits, negative_cell, little_room, number, unless}
@@ -52,6 +52,16 @@ module _ (side east north : ℤ) where
   -- a cell with a code: the code of its side is that of the side's length, and has 18 bytes at most
   pub coded_most : (s : Side) → pos (side_length s) ≡ side → 0 ≡ code_refusal side east north → length (code_text (pos (side_length s)) east north) ≤ 18
   coded_most s is none = rw is (code_most side east north (has_code side east north (sym none)))
+
+  -- and it is the code of the cell, whose numbers are their sizes
+  pub coded_as :
+      (s : Side) →
+      pos (side_length s) ≡ side →
+      0 ≡ code_refusal side east north →
+      code_text (pos (side_length s)) (pos (nat_abs east)) (pos (nat_abs north)) ≡ code_text side east north
+  coded_as s is none =
+      let has = has_code side east north (sym none) in
+      rw (is, has.of_east.natural, has.of_north.natural) refl
 
   module _ (bytes : List ℕ) where
     pub code_unwritten :

@@ -26,7 +26,7 @@ use Rattle.azimuthal_forward.specs.Steps.{H, u, w, G, dE, dN, near_enough}
 use Rattle.azimuthal_forward.specs.Answer.{on_globe, nearness, easting_of, northing_of, forward_of}
 use Rattle.azimuthal_forward.proofs.ForwardLaws.{u_size, w_size, H-least}
 use Rattle.azimuthal_forward.proofs.AnswerLaws.{forward_off_globe, forward_too_far, forward_plane}
-use Rattle.sphere_points.specs.declared.SpherePoint.{SpherePoint}
+use Rattle.sphere_points.specs.Points.{Point}
 use Rattle.azimuthal_inverse.specs.Steps.{at_origin, on_map, K, found}
 use Rattle.sphere_points.specs.Sphere.{latitude_of, longitude_of, G as inverseG}
 use Rattle.azimuthal_inverse.specs.Answer.{answer_from, inverse_of}
@@ -92,7 +92,7 @@ forward_small φ lon =
 
 -- ---- inverse
 
-wrapped_size : (s : SpherePoint) → nat_abs (wrapped (etrs_laea.lon0 +ℤ longitude_of s)) ≤ half_turn
+wrapped_size : (s : Point) → nat_abs (wrapped (etrs_laea.lon0 +ℤ longitude_of s)) ≤ half_turn
 wrapped_size s =
     let lon = etrs_laea.lon0 +ℤ longitude_of s in
     let range = wrapped_range lon (omega (arith, abs_add_le etrs_laea.lon0 (longitude_of s) (le_refl 36_000_000) (longitude_size s))) in

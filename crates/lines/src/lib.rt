@@ -1,13 +1,14 @@
 // One line of text in, one line of answer out, for ETRS-LAEA in whole units: document 01, "The program".
 #![tactic(auto)]
 
-ghost use Rattle.std.specs.Prelude.{◌≡◌, ◌+◌, ◌≤◌, length};
+ghost use Rattle.std.specs.Prelude.{◌≡◌, ◌+◌, ◌≤◌, [], ◌∷◌, ◌++◌, length};
+ghost use Rattle.text.specs.Ascii.{newline};
 ghost use Rattle.text.specs.Pasting.{Put};
 ghost use Rattle.parameters.specs.ParameterSet.{etrs_laea};
 ghost use Rattle.azimuthal_forward.specs.Answer.{plane_answer};
 ghost use Rattle.azimuthal_inverse.specs.Answer.{geodetic_answer};
 ghost use Rattle.requests.specs.Requests.{asked};
-ghost use Rattle.replies.specs.Replies.{replied};
+ghost use Rattle.replies.specs.Replies.{replied, reply_text};
 ghost use Rattle.lines.specs.Lines.{plane_reply, position_reply, reply_of, answer_line, answer_most};
 
 use arrayvec::ArrayString;
@@ -67,24 +68,28 @@ fn reply_to(projection: &Projection, request: Option<Request>) -> Reply
     }
 }
 
-// The answer's line to a line.
-fn answer_line(projection: &Projection, line: &[u8]) -> ArrayString<ANSWER_MOST>
+// The answer's line to a request.
+fn answer_line(projection: &Projection, request: Option<Request>) -> ArrayString<ANSWER_MOST>
     requires { projection.now.set ≡ etrs_laea }
-    ensures { result.bytes ≡ answer_line line.now }
+    ensures { result.bytes ≡ reply_text (reply_of (asked request)) ++ (newline ∷ []) }
 {
     let mut text = ArrayString::new();
-    push_reply(&mut text, reply_to(projection, read_request(line)));
+    push_reply(&mut text, reply_to(projection, request));
     text.push_str("\n");
     text
 }
 
-// The answer's line to a line, at an index of out, and the index after it.
+// The answer's line to a line, at an index of out, and the index after it. A line of another form is answered at once.
+#[tactic(auto, unfolding(crate::specs::Lines::answer_line, crate::specs::Lines::answer_text, crate::specs::Lines::reply_of))]
 pub fn answer_at(projection: &Projection, line: &[u8], out: &mut [u8], at: usize) -> usize
     requires set { projection.now.set ≡ etrs_laea }
     requires room { at + answer_most ≤ length out.old }
     ensures { Put out.old at (answer_line line.now) out.new result }
 {
-    put_bytes(out, at, answer_line(projection, line).as_bytes())
+    match read_request(line) {
+        None => put_bytes(out, at, b"bad line\n"),
+        request => put_bytes(out, at, answer_line(projection, request).as_bytes()),
+    }
 }
 
 // Any line of any bytes: the customer's call. The bytes past the answer stay as they were.

@@ -5,7 +5,7 @@ use Rattle.std.proofs.lemmas.Fmt.{decimal_from_appends, length-decimal-le}
 use Rattle.text.specs.Numbers.{digits_within, decimal, number_text}
 use Rattle.text.proofs.Digits.{text_negative, text_natural}
 
-decimal_printed : (n : ℕ) → n < 2 ^ 64 → std_decimal n ≡ decimal n
+pub decimal_printed : (n : ℕ) → n < 2 ^ 64 → std_decimal n ≡ decimal n
 unfolding decimal
 decimal_printed n h = sym (decimal_from_appends digits_within (search rules) 20 n h (length-decimal-le 20 n (omega arith) (omega arith) h))
 
