@@ -4,7 +4,7 @@
 ghost use Rattle.std.specs.Prelude.{◌≡◌, [], ◌∷◌, pos};
 ghost use Rattle.units.specs.Refusals.{refusal_number};
 ghost use Rattle.cells.specs.Cells.{side_length};
-ghost use Rattle.c_answers.specs.Answers.{left};
+ghost use Rattle.c_answers.specs.InnerAnswers.{left};
 
 use azimuthal_forward::{GeodeticPosition, PlanePosition};
 use cells::CellNumbers;

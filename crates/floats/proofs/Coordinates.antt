@@ -8,7 +8,7 @@ use lib.Ieee.Fits.{down_pos}
 use Rattle.integers.specs.Near.{nearest, signed}
 use Rattle.integers.proofs.Rounding.{nearest_only, nearest_mono, nearest_whole, nearest_zero}
 use Rattle.floats.specs.Conversion.{whole_of, float_of}
-use Rattle.floats.specs.Kinds.{Coordinate}
+use Rattle.floats.specs.InnerKinds.{Coordinate}
 use Rattle.floats.specs.Limits.{is_finite, beyond, within_limit, latitude_limit, longitude_limit, plane_limit_float}
 use Rattle.floats.proofs.Signs.{negative, signed_again, signed_size, signed_zero}
 use Rattle.floats.proofs.Bounds.{AtMost, at_most_finite, at_most_value, within_at_most, at_most_within, within_more}

@@ -1,3 +1,3 @@
 pub mod Conversion
 pub mod Limits
-pub mod Kinds
+pub mod InnerKinds

@@ -8,7 +8,7 @@ ghost use Rattle.std.specs.Float.Ieee.{of_int};
 ghost use Rattle.units.specs.Units.{degree, metre, right_angle, half_turn, plane_limit};
 ghost use Rattle.floats.specs.Conversion.{whole_of, float_of};
 ghost use Rattle.floats.specs.Limits.{is_finite, within_limit, latitude_limit, longitude_limit, plane_limit_float};
-ghost use Rattle.floats.specs.Kinds as Kinds;
+ghost use Rattle.floats.specs.InnerKinds as Kinds;
 
 use integers::{nearest, signed};
 use units::{DEGREE, METRE};

@@ -13,7 +13,7 @@ use Rattle.code_reading.specs.declared.CodeCell.{CodeCell}
 use Rattle.code_reading.specs.Reading.{CodeTold, code_answer, read_told}
 use Rattle.tallies.specs.declared.Sums.{Sums}
 use Rattle.tallies.specs.Tallies.{SumsAnswer, sums_answer}
-use Rattle.c_answers.specs.Answers.{left}
+use Rattle.c_answers.specs.InnerAnswers.{left}
 use Rattle.laea_c.specs.Calls.{CodeReadAnswered, SumsAnswered}
 
 -- a refused call leaves what was there

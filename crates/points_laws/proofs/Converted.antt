@@ -9,7 +9,7 @@ use Rattle.proof_kit.proofs.Order.{<ℤ-≤ℤ, abs_between}
 use Rattle.units.specs.Refusals.{unless, first_refusal}
 use Rattle.units.proofs.Spans.{plane_sizes}
 use Rattle.units.proofs.Chains.{link_passed}
-use Rattle.floats.specs.Kinds.{latitude, longitude, plane}
+use Rattle.floats.specs.InnerKinds.{latitude, longitude, plane}
 use Rattle.latitudes.specs.declared.Geodetic.{Geodetic}
 use Rattle.parameters.specs.declared.Parameters.{Parameters}
 use Rattle.parameters.specs.ParameterSet.{set_refusal}

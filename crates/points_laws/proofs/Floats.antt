@@ -8,7 +8,7 @@ use lib.IntN.{ℤ, nat_abs}
 use lib.Ieee.{Float}
 use Rattle.floats.specs.Conversion.{whole_of, float_of}
 use Rattle.floats.specs.Limits.{is_finite, within_limit}
-use Rattle.floats.specs.Kinds.{Coordinate}
+use Rattle.floats.specs.InnerKinds.{Coordinate}
 use Rattle.floats.proofs.Coordinates.{float_finite, float_within, float_back}
 use Rattle.pairs.specs.Pairs.{are_finite}
 

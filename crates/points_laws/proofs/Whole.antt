@@ -4,7 +4,7 @@ use mathlib.Core.Path.{refl, ap, ap₂, ◌∙◌}
 use native.Mathlib.Nat.{le_trans}
 use lib.Dec.{lit≤}
 use lib.IntN.{ℤ}
-use Rattle.floats.specs.Kinds.{latitude, longitude, plane}
+use Rattle.floats.specs.InnerKinds.{latitude, longitude, plane}
 use Rattle.parameters.proofs.AcceptedSet.{accepted_fields, lat0_size}
 use Rattle.azimuthal_forward.specs.Answer.{forward_of}
 use Rattle.azimuthal_inverse.specs.Answer.{inverse_of}
