@@ -42,12 +42,21 @@ class Def:
 
 
 def imports(text, word):
-    """for each imported name, as it is called here: the module, and the name there"""
+    """for each imported name, as it is called here: the module, and the name there; a list of names may go over lines"""
     found = {}
-    for module, names in re.findall(rf"^(?:unfoldable )?(?:pub )?{word} (\S+)\.{{(.*)}};?$", text, re.M):
-        for item in names.split(", "):
+    head = rf"^ *(?:unfoldable )?(?:pub )?{word} "
+    lists = re.findall(head + r"(\S+)\.\{([^}]*)\};?$", text, re.M)
+    modules = re.findall(head + r"([^\s{]+) as (\w+);?$", text, re.M)
+    if len(lists) + len(modules) != len(re.findall(head, text, re.M)):
+        raise SystemExit(f"an import is not read, of those that start with `{word}` in the text that begins:\n{text[:200]}")
+    for module, names in lists:
+        for item in re.split(r",\s*", names.strip().rstrip(",")):
             there, _, here = item.partition(" as ")
             found[here or there] = (module, there)
+    # of a module that is imported under a name, each of its names that the text has
+    for module, here in modules:
+        for there in re.findall(rf"(?<![\w.]){here}\.([^\s(){{}};,]+)", plain(text)):
+            found[f"{here}.{there}"] = (module, there)
     return found
 
 
@@ -220,7 +229,8 @@ def items(crate, pattern, kind):
                 first = last = at
                 while first > 0 and lines[first - 1].startswith(found[1] + "#["):
                     first -= 1
-                while not re.match(found[1] + r"(\S.*)?[;}]$", lines[last]):
+                # the last line of a trait's function may be its clause
+                while not re.match(found[1] + r"((\S.*)?[;}]|\s+(requires|ensures) .*};)$", lines[last]):
                     last += 1
                 out.append(kind(crate, file, found[2], lines, first, last))
     return out
@@ -270,11 +280,12 @@ def code_types(d):
 
 
 class Function(Def):
-    """a function of src/: its signature, its contract and its body"""
+    """a function of src/: the type or trait that it belongs to, its signature, its contract and its body"""
 
     def __init__(self, *place):
         super().__init__(*place)
         self.called = self.name
+        self.owner = owner(place[3], self.first)
         at = closed(self.text, self.text.index("(", self.text.index("fn " + self.name)))
         self.signature = self.text[: self.text.index("\n", at) if "\n" in self.text[at:] else None]
         self.contract, clause = {"requires": "", "ensures": ""}, re.compile(r"[^{]*?\b(requires|ensures)\b[^{]*{")
@@ -288,6 +299,35 @@ class Function(Def):
         """the definitions, types and kit's names that its promise names"""
         uses = imports(read(crates / self.crate / self.file), "ghost use")
         return list(dict.fromkeys(target(*uses[name]) for name in cited(plain(self.contract["ensures"]), uses)))
+
+
+    def calls(self, other):
+        """whether the body calls a function: by its name, by its type's or a type parameter's, or as a method"""
+        if other.owner is None:
+            before = r"(?<![.:\w])(?:[a-z_]\w*::)*"
+        else:
+            own = "|".join([other.owner, "[A-Z]"] + ["Self"] * (self.owner == other.owner))
+            before = rf"(?:\.|\b(?:{own})::|\bas {other.owner}>::|<{other.owner} as \w+>::)"
+        return bool(re.search(before + other.name + r"(?:::<[^<>]*>)?\(", self.body))
+
+    def with_called(self):
+        """the functions of its crate that it calls, but for entries, and those that they call, with itself"""
+        found, todo = {}, [self]
+        while todo:
+            f = todo.pop()
+            if f not in found:
+                found[f] = True
+                todo += [g for g in functions(self.crate) if g not in entries() and f.calls(g)]
+        return list(found)
+
+
+def owner(lines, at):
+    """the type or trait in whose block a line stands, or None"""
+    indent = re.match(r" *", lines[at])[0]
+    for line in reversed(lines[:at] if indent else []):
+        found = re.match(r"impl(?:<[^>]*>)? (?:.* for )?(\w+)|(?:pub )?trait (\w+)", line)
+        if found:
+            return found[1] or found[2]
 
 
 def closed(text, at):
