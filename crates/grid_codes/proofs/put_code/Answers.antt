@@ -1,5 +1,5 @@
 -- `put_code` meets its contract: the side stands before the north number, and that before the east number. Assumes nothing.
-use Rattle.std.proofs.Common.{ℕ, List, [], ◌+◌, ◌≡◌, ◌∙◌, ◌++◌, ℤ, sym, ap, refl, arith, length, drop, pos, length-append}
+use Rattle.std.proofs.Common.{ℕ, List, [], ◌+◌, ◌≤◌, ◌≡◌, ◌∙◌, ◌++◌, ℤ, sym, ap, refl, arith, length, drop, pos, length-append}
 use mathlib.Core.Path.{ap₂, subst}
 use mathlib.Core.List.{append-nil}
 use Rattle.std.proofs.Math.Seq.{drop-length}
@@ -58,6 +58,18 @@ joined :
 unfolding code_text
 joined side north east is of_side of_numbers = of_side ∙ ap₂ ◌++◌ (sym is) of_numbers
 
+-- there is room for the side before the numbers
+room :
+    (side north east : ℤ) {text : List ℕ} (from_east from_north : ℕ) →
+    length (code_text side east north) ≤ 18 →
+    from_east + length (labelled (ascii "E") east) ≡ 18 →
+    from_north + length (labelled (ascii "N") north) ≡ from_east →
+    side_text side ≡ text →
+    (length text ≤ from_north) × (from_north ≤ 18)
+room side north east from_east from_north most of_east of_north is =
+    let short = ap length is in
+    (omega (arith, parts side east north, most, of_east, of_north, short), omega (arith, of_east, of_north))
+
 pub put_labelled-from_east-requires : goal.put_labelled-from_east-requires
 put_labelled-from_east-requires c =
     (omega (arith, parts (pos (side_length c.args.side)) (pos c.args.east) (pos c.args.north), c.requires), omega arith)
@@ -75,45 +87,18 @@ put_labelled-from_north-requires c = (
 
 pub put_before-requires : goal.put_before-requires
 put_before-requires c =
-    let short = ap length (metres_100 c.args.side c.in-Metres100.is) in (
-      omega (
-        arith,
-        parts (pos (side_length c.args.side)) (pos c.args.east) (pos c.args.north),
-        c.requires,
-        c.put_labelled-from_east.ensures.start,
-        c.put_labelled-from_north.ensures.start,
-        short,
-      ),
-      omega (arith, c.put_labelled-from_east.ensures.start, c.put_labelled-from_north.ensures.start),
-    )
+    room (pos (side_length c.args.side)) (pos c.args.north) (pos c.args.east) _ _ c.requires c.put_labelled-from_east.ensures.start
+    c.put_labelled-from_north.ensures.start (metres_100 c.args.side c.in-Metres100.is)
 
 pub put_before-requires-in-Kilometre : goal.put_before-requires-in-Kilometre
 put_before-requires-in-Kilometre c =
-    let short = ap length (kilometre c.args.side c.in-Kilometre.is) in (
-      omega (
-        arith,
-        parts (pos (side_length c.args.side)) (pos c.args.east) (pos c.args.north),
-        c.requires,
-        c.put_labelled-from_east.ensures.start,
-        c.put_labelled-from_north.ensures.start,
-        short,
-      ),
-      omega (arith, c.put_labelled-from_east.ensures.start, c.put_labelled-from_north.ensures.start),
-    )
+    room (pos (side_length c.args.side)) (pos c.args.north) (pos c.args.east) _ _ c.requires c.put_labelled-from_east.ensures.start
+    c.put_labelled-from_north.ensures.start (kilometre c.args.side c.in-Kilometre.is)
 
 pub put_before-requires-in-Kilometres10 : goal.put_before-requires-in-Kilometres10
 put_before-requires-in-Kilometres10 c =
-    let short = ap length (kilometres_10 c.args.side c.in-Kilometres10.is) in (
-      omega (
-        arith,
-        parts (pos (side_length c.args.side)) (pos c.args.east) (pos c.args.north),
-        c.requires,
-        c.put_labelled-from_east.ensures.start,
-        c.put_labelled-from_north.ensures.start,
-        short,
-      ),
-      omega (arith, c.put_labelled-from_east.ensures.start, c.put_labelled-from_north.ensures.start),
-    )
+    room (pos (side_length c.args.side)) (pos c.args.north) (pos c.args.east) _ _ c.requires c.put_labelled-from_east.ensures.start
+    c.put_labelled-from_north.ensures.start (kilometres_10 c.args.side c.in-Kilometres10.is)
 
 pub returns-in-Metres100-clause-written : goal.returns-in-Metres100-clause-written
 returns-in-Metres100-clause-written c =
